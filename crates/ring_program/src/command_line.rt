@@ -195,7 +195,7 @@ pub(crate) enum Request {
 fn with_at_least<'a>(alloc: Global, command: Command<'a>) -> Result<Command<'a>, AllocError>
     ensures { IfOk result (HasOption at_least_rule command.entry) }
 {
-    let help = "With --register: the class that the history is to have";
+    let help = "With --register: the class that is required [default: atomic]";
     command.arg(value_option(alloc, "at-least", "CLASS", help))
 }
 
@@ -214,11 +214,11 @@ fn audit<'a>(alloc: Global) -> Result<Command<'a>, AllocError>
     let help = "Audit a recording of the reads and writes of any register";
     let command = with_flag(alloc, command, "register", help)?;
     let command = with_at_least(alloc, command)?;
-    let help = "With --register: say how much the recording could have shown";
+    let help = "With --register: report how much the recording could have shown";
     let command = with_flag(alloc, command, "report", help)?;
     let help = "With --calls or --register: stop at the first fault, and read no further";
     let command = with_flag(alloc, command, "stop", help)?;
-    let help = "Tell of a fault what was due, in further lines";
+    let help = "Say in further lines what was due instead of a fault";
     with_flag(alloc, command, "why", help)
 }
 
@@ -235,9 +235,9 @@ fn play<'a>(alloc: Global) -> Result<Command<'a>, AllocError>
 {
     let about = "Play a script of the ring's two sides, from standard input";
     let command = new_command(alloc, "play", about, PLAY_USAGE, PLAY_HELP);
-    let help = "Print the whole history, as a trace, in place of the report";
+    let help = "Print the whole history as a trace instead of the report";
     let command = with_flag(alloc, command, "trace", help)?;
-    let help = "Print the calls of the play, as recorded calls, in place of the report";
+    let help = "Print the calls as recorded calls instead of the report";
     let command = with_flag(alloc, command, "calls", help)?;
     with_wrong(alloc, command)
 }

@@ -122,7 +122,7 @@ fn with_required<'a>(
 fn with_takes<'a>(alloc: Global, command: Command<'a>) -> Result<Command<'a>, AllocError>
     ensures { IfOk result (HasOption (number_rule (codes "takes") largest) command.entry) }
 {
-    let help = "The most takes, where not L";
+    let help = "The most takes [default: L]";
     command.arg(number_option(alloc, "takes", "T", u64::MAX, help))
 }
 
@@ -202,9 +202,9 @@ pub fn run_command<'a>(alloc: Global) -> Result<Command<'a>, AllocError>
     let command = with_batch(alloc, command)?;
     let command = with_take_batch(alloc, command)?;
     let command = with_ring(alloc, command)?;
-    let help = "Tell the calls, and the items a second";
+    let help = "Report the calls, and the items per second";
     let command = with_flag(alloc, command, "report", help)?;
-    let help = "Print a recording of the calls in place of the text";
+    let help = "Print a recording of the calls instead of the text";
     with_flag(alloc, command, "record", help)
 }
 

@@ -54,9 +54,9 @@ static WORDS: [(&str, u8, &[&str]); 3] = [
         &[
             EXAMPLE,
             "Usage: lamport_ring run --capacity B --modulus M --width W --count N --limit L\n       [--takes T] [--batch G] [--take-batch H] [--ring RING]\n       [--report | --record]\n",
-            "  M  what its counts run modulo, from B + G + 1 and B + H + 1 to 256\n",
-            "A limit counts every call of put or take, also one that finds the ring full or\nempty, and a take that brings items by how many these are; the close is not\ncounted.",
-            "  0  the taker was told that the ring is closed: all items were put and taken\n",
+            "  M  the modulus of its counts, at least B + G + 1 and B + H + 1, at most 256\n",
+            "Every call of put or take counts towards its limit, also one that finds the ring\nfull or empty; a take that returns several items counts once for each.",
+            "  0  a take returned Closed: all items were put and taken\n",
             "  2  the command line is wrong\n",
         ],
     ),
