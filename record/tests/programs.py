@@ -94,7 +94,7 @@ REAL = [
 
 BROKEN = Program("broken", "command -v g++", "apt-get install build-essential", f"{CPP} broken/ring.cpp -o $ROOM/ring", "$ROOM/ring")
 
-# record/shrink and record/head; record/convert; the program of README.md; and a ring under Relacy.
+# record/shrink and record/head; record/convert; the program my.c; and a ring under Relacy.
 SMALL = Program("shrink and head", "command -v g++", "apt-get install build-essential", f"{CPP} broken/ring.cpp -o $ROOM/ring_of_heads",
                 "python3 tests/unit/small.py $ROOM/ring_of_heads")
 CONVERT = Program("convert", "true", "", "true", "python3 tests/unit/logs.py")
