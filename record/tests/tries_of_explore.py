@@ -266,9 +266,10 @@ class Tries:
         room = os.environ["ROOM"]
         with open(f"{here}/README.md", encoding="utf-8") as file:
             section = file.read().split("## Every execution of a small test")[1].split("\n## ")[0]
-        for name, text in zip(("my_ring.h", "my_explore.c"), re.findall(r"(?s)```c\n(.*?)```", section)):
-            with open(f"{room}/{name}", "w", encoding="utf-8") as file:
-                file.write(text)
+        with open(f"{here}/my_ring.h", encoding="utf-8") as ring, open(f"{room}/my_ring.h", "w", encoding="utf-8") as file:
+            file.write(ring.read())
+        with open(f"{room}/my_explore.c", "w", encoding="utf-8") as file:
+            file.write(re.search(r"(?s)```c\n(.*?)```", section)[1])
         want = re.search(r"(?m)^    (fault: .*)$", section)[1]
         command = next(line.strip() for line in section.split("\n") if line.startswith("    gcc -fsanitize=thread"))
         rest = next(line.strip() for line in section.split("\n") if line.startswith("    gcc -O2 "))
