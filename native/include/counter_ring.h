@@ -14,7 +14,7 @@
  * done (ring_finish): there is one lawful history with both lists; its calls are linearizable; the items taken are a prefix of the items
  * put. docs/GUARANTEES.md lists each promise, with the contract that states it.
  *
- * What the caller must ensure, and nothing checks (docs/TRUST.md):
+ * What the caller must ensure, and nothing checks:
  * - A handle is all 0 before ring_open, and after that only the library writes to it. No copy of it is used
  *   (ring_move_putter, ring_move_taker move one). What it points to is neither read nor written.
  * - One call at a time on one handle; the two handles of a ring may be used at the same time. A handle is passed to another thread by
