@@ -7,7 +7,7 @@
 
 enum { CALLS = 100000 };
 static ring_calls rec;
-static pthread_barrier_t both_are_here;
+static _Atomic int here;                                /* how many threads have begun */
 static uint64_t seed = 1;
 
 /* -DPIN: each side on its own processor; if the system lacks that one, the thread stays where it is. */
@@ -19,7 +19,7 @@ static void begin(int processor) {
     pthread_setaffinity_np(pthread_self(), sizeof one, &one);
 #endif
     (void)processor;
-    pthread_barrier_wait(&both_are_here);
+    for (here++; here < 2;) sched_yield();              /* the first one waits for the other */
 }
 
 /* Between calls mostly no pause, sometimes a short one, rarely a long one: so each side falls behind at times, and the queue gets full and empty. */
@@ -58,7 +58,6 @@ int main(int argc, char **argv) {                       /* ./my SEED: another se
     if (argc > 1) seed = strtoull(argv[1], NULL, 10);
     if (!ring_calls_init(&rec, 1 << 20)) return 2;
     /* If your queue lets you, start its counts just below their wrap, as head = tail = UINT32_MAX - 1000: no run gets there otherwise. */
-    pthread_barrier_init(&both_are_here, NULL, 2);
     pthread_create(&p, NULL, produce, NULL);
     pthread_create(&c, NULL, consume, NULL);
     pthread_join(p, NULL);

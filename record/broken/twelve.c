@@ -75,17 +75,23 @@ static void consume(void) {
 static void reset(void) { q_reset(&q); }
 int main(void) { return explore(reset, produce, consume, HEAD_LINE); }
 #else
-static pthread_barrier_t both_are_here;
+/* The first side waits for the other. */
+static atomic_int here;
+static void wait_for_both(void) {
+    here++;
+    while (here < 2) sched_yield();
+}
+
 static void *run_producer(void *seed) {
     random_state = *(uint64_t *)seed * 11 + 5;
-    pthread_barrier_wait(&both_are_here);
+    wait_for_both();
     produce();
     is_over = true;
     return NULL;
 }
 static void *run_consumer(void *seed) {
     random_state = *(uint64_t *)seed * 13 + 7;
-    pthread_barrier_wait(&both_are_here);
+    wait_for_both();
     consume();
     return NULL;
 }
@@ -97,7 +103,6 @@ int main(int argc, char **argv) {
     uint64_t seed = strtoull(argv[2], NULL, 10);
     if (!ring_calls_init(&rec, puts_wanted * 64 + (1 << 20))) return 2;
     q_reset(&q);
-    pthread_barrier_init(&both_are_here, NULL, 2);
     if (pthread_create(&p, NULL, run_producer, &seed) || pthread_create(&c, NULL, run_consumer, &seed)) return 2;
     pthread_join(p, NULL);
     pthread_join(c, NULL);

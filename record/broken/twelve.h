@@ -1,12 +1,9 @@
 /* twelve.h: small queues for one producer and one consumer in C11, of seven common forms with their common memory orders, each correct if BUG
  * is 0; and 13 bugs like those found in such queues. README.md lists them. -DBUG=n selects a bug, and the form that has it; -DBUG=0 -DFORM=n a form. */
-#include <linux/futex.h>
 #include <stdatomic.h>
 #include <stdbool.h>
 #include <stdint.h>
 #include <string.h>
-#include <sys/syscall.h>
-#include <unistd.h>
 
 #ifndef BUG
 #define BUG 0
@@ -152,7 +149,11 @@ static bool q_look(queue *q, uint64_t *item) {
 #endif
 
 #if FORM == BLOCKING
-/* Both sides wait on a futex: each change increments the count of events, and wakes the other. Bug 8. */
+#include <linux/futex.h>
+#include <sys/syscall.h>
+#include <unistd.h>
+
+/* Both sides wait on a futex, so this needs Linux: each change increments the count of events, and wakes the other. Bug 8. */
 enum { CAPACITY = 2 };
 #define HEAD_LINE "queue 2"
 typedef struct { uint64_t slot[CAPACITY]; _Atomic uint64_t head, tail; atomic_uint events; atomic_bool closed; } queue;

@@ -312,7 +312,7 @@ static inline void ring_audit_show(const ring_audit *a, const ring_calls *rec, c
 /* Writes the recording to the file that RING_AUDIT_KEEP names in the environment, replacing it. */
 static inline void ring_audit_keep(const ring_calls *rec, const char *head) {
     const char *name = getenv("RING_AUDIT_KEEP");
-    FILE *file = name && *name ? fopen(name, "w") : NULL;
+    FILE *file = name && *name ? fopen(name, "wb") : NULL;
     bool written = file && ring_calls_write(rec, head, file);
     if (file && fclose(file) != 0) written = false;
     if (name && *name && !written) fprintf(stderr, "%s: the recording cannot be written\n", name);

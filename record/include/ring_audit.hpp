@@ -35,6 +35,29 @@ public:
 class ring_auditor {
     ring_audit audit = RING_AUDIT_NONE;
 
+    // The lines around the one at fault; none if there is no memory for them, or on Windows no temporary file.
+    std::string lines_shown(const ring_calls& rec, const char* head) const {
+        std::string shown;
+#ifdef _WIN32
+        // (it has no open_memstream)
+        if (FILE* out = std::tmpfile()) {
+            ring_audit_show(&audit, &rec, head, out);
+            std::rewind(out);
+            for (int byte; (byte = std::fgetc(out)) != EOF;) shown += static_cast<char>(byte);
+            std::fclose(out);
+        }
+#else
+        char* text = nullptr;
+        std::size_t size = 0;
+        if (FILE* out = open_memstream(&text, &size)) {
+            ring_audit_show(&audit, &rec, head, out);
+            if (std::fclose(out) == 0) shown.assign(text, size);
+            std::free(text);
+        }
+#endif
+        return shown;
+    }
+
 public:
     ring_auditor() = default;
     ~ring_auditor() { ring_audit_free(&audit); }
@@ -50,13 +73,7 @@ public:
             ring_audit_count(&audit);
             return found;
         }
-        char* text = nullptr;
-        std::size_t size = 0;
-        if (FILE* out = audit.found.line ? open_memstream(&text, &size) : nullptr) {
-            ring_audit_show(&audit, &rec, head, out);
-            if (std::fclose(out) == 0) found.shown.assign(text, size);
-            std::free(text);
-        }
+        if (audit.found.line) found.shown = lines_shown(rec, head);
         ring_audit_keep(&rec, head);
         return found;
     }

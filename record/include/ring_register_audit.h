@@ -159,7 +159,7 @@ static inline void ring_register_show(const ring_register *rec, const char *head
 /* Writes the recording to the file that RING_AUDIT_KEEP names in the environment, replacing it; and prints this to stderr. */
 static inline void ring_register_keep(const ring_register *rec, const char *head) {
     const char *name = getenv("RING_AUDIT_KEEP");
-    FILE *file = name && *name ? fopen(name, "w") : NULL;
+    FILE *file = name && *name ? fopen(name, "wb") : NULL;
     int written = file && ring_register_print(rec, head, file);
     if (file && fclose(file) != 0) written = 0;
     if (!name || !*name) fputs("RING_AUDIT_KEEP=FILE keeps the recording; lamport_ring audit --register < FILE says why\n", stderr);

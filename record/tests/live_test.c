@@ -7,11 +7,13 @@
  *         BUG     early, an index is visible before its item; lost, item ITEMS/2 is lost; closed, reported with items inside
  *     live_test feed FILE..                       prints what is found about recordings, whose events one thread records live
  *
- * LIVE_TEST_PIN in the environment has each side run on a processor of its own. */
+ * On Linux LIVE_TEST_PIN in the environment has each side run on a processor of its own. */
 #ifndef _GNU_SOURCE
 #define _GNU_SOURCE
 #endif
+#ifndef _WIN32
 #include <sys/resource.h>
+#endif
 #include "ring_live.h"
 
 enum got { NOTHING, ITEM, TOLD };
@@ -20,7 +22,8 @@ static bool is_logged, is_live, blocks, shows_early, loses_one, closes_early;
 static ring_calls rec;
 static ring_live live;
 static uint64_t items_wanted;
-static pthread_barrier_t both_are_here;
+/* How many sides have begun. */
+static ring_calls_counter here;
 /* What a side came to: its calls, and those that found the queue full or empty; when it ended, and its processor time. */
 static struct { uint64_t calls, nothing; double began, ended, busy; char apart[128]; } sides[2];
 
@@ -105,15 +108,28 @@ static double seconds_of(clockid_t clock) {
     return (double)t.tv_sec + (double)t.tv_nsec * 1e-9;
 }
 
-/* On request, runs on a processor of its own: the first or the second of those available. */
+/* The most memory that the process took, in KB; 0 if the system does not tell. */
+static long memory_taken(void) {
+#ifdef _WIN32
+    return 0;
+#else
+    struct rusage used;
+    return getrusage(RUSAGE_SELF, &used) == 0 ? used.ru_maxrss : 0;
+#endif
+}
+
+/* On request, runs on a processor of its own: the first or the second of those available. Then waits for the other side. */
 static void begin_side(size_t side) {
+#ifdef __linux__
     cpu_set_t all, one;
     CPU_ZERO(&one);
     if (getenv("LIVE_TEST_PIN") && sched_getaffinity(0, sizeof all, &all) == 0) {
         for (size_t i = 0, n = 0; i < CPU_SETSIZE; i++) if (CPU_ISSET(i, &all) && n++ == side) CPU_SET(i, &one);
         sched_setaffinity(0, sizeof one, &one);
     }
-    pthread_barrier_wait(&both_are_here);
+#endif
+    RING_CALLS_STD(atomic_fetch_add)(&here, (uint64_t)1);
+    while (ring_live_load(&here) < 2) sched_yield();
     sides[side].began = ring_live_seconds();
 }
 
@@ -171,7 +187,6 @@ static int try_queue(const char *way, size_t capacity) {
     pthread_t threads[2];
     ring_audit judged = RING_AUDIT_NONE;
     ring_audit_counts seen;
-    struct rusage used;
     double monitor;
     int lawful = 1;
     snprintf(first_line, sizeof first_line, "queue %zu", capacity);
@@ -179,20 +194,18 @@ static int try_queue(const char *way, size_t capacity) {
     cells = (uint64_t *)calloc(cells_count, sizeof *cells);
     if (!cells || (is_logged && !ring_calls_init(&rec, items_wanted * 16 + 4096))) return 2;
     if (is_live && !ring_live_begin(&live, first_line)) return 2;
-    pthread_barrier_init(&both_are_here, NULL, 2);
     if (pthread_create(&threads[0], NULL, produce, NULL) || pthread_create(&threads[1], NULL, consume, NULL)) return 2;
     for (int i = 0; i < 2; i++) pthread_join(threads[i], NULL);
     if (is_live) lawful = ring_live_end(&live);
     monitor = seconds_of(CLOCK_PROCESS_CPUTIME_ID) - seconds_of(CLOCK_THREAD_CPUTIME_ID) - sides[0].busy - sides[1].busy;
     if (is_logged) lawful = ring_audit_judge(&judged, &rec, first_line);
-    getrusage(RUSAGE_SELF, &used);
 
     const double calls = (double)(sides[0].calls + sides[1].calls);
     const double began = sides[0].began < sides[1].began ? sides[0].began : sides[1].began;
     const double seconds = (sides[0].ended > sides[1].ended ? sides[0].ended : sides[1].ended) - began;
     printf("%s: %.0f calls, full %.2f%%, empty %.2f%%, %.2f s, %.1f ns a call, of processor time %.1f, %ld KB\n", way, calls,
            (double)sides[0].nothing / calls * 100, (double)sides[1].nothing / calls * 100, seconds, seconds / calls * 1e9,
-           (sides[0].busy + sides[1].busy) / calls * 1e9, used.ru_maxrss);
+           (sides[0].busy + sides[1].busy) / calls * 1e9, memory_taken());
     if (is_live) {
         const unsigned long long waits = live.waits, lawful_lines = live.audit.state.line, events = ring_live_load(&live.next);
         printf("monitor: %.1f ns an event, waits %llu, lawful %llu of %llu events\n", monitor / (double)live.ticket * 1e9, waits,
