@@ -107,10 +107,7 @@ class Judge:
         try:
             ring_audit.load()
         except (OSError, ImportError):
-            done = subprocess.run([LAUNCHER, "--which"], stdout=subprocess.PIPE, text=True, check=False)
-            if done.returncode != 0:
-                raise Refused("there is no audit: neither libring_audit.so.1 nor ./lamport_ring was found") from None
-            self.command = [done.stdout.strip(), "audit", "--calls"]
+            self.command = [program(), "audit", "--calls"]
 
     def found(self, recording, head):
         """The audit's finding for the recording with this first line."""
@@ -133,14 +130,27 @@ class Judge:
         return found_in(self.audit.fault())
 
     def found_by_program(self, recording, head):
-        done = subprocess.run(self.command, input=recording.text(head), capture_output=True, text=True, errors="replace", check=False)
+        # (bytes: on Windows a line of text would end in CR LF, which the audit refuses)
+        done = subprocess.run(self.command, input=recording.text(head).encode("ascii"), capture_output=True, check=False)
+        out = done.stdout.decode("ascii", "replace")
         if done.returncode == 0:
-            report = dict(line.split(" ", 1) for line in done.stdout.splitlines()[1:])
+            report = dict(line.split(" ", 1) for line in out.splitlines()[1:])
             counts = {name: int(value) for name, value in report.items() if value.isdigit()}
             return Found(0, "", {"cut": "no", **report, **counts, "inside": tuple(map(int, report["inside"].split(" ")))})
         if done.returncode == 3:
-            return found_in(done.stdout.split("\n")[0])
-        raise Refused(f"the audit failed: {(done.stderr or done.stdout).strip()}")
+            return found_in(out.split("\n")[0])
+        raise Refused(f"the audit failed: {(done.stderr.decode(errors='replace') or out).strip()}")
+
+
+def program():
+    """The program of this repository."""
+    try:
+        done = subprocess.run([LAUNCHER, "--which"], stdout=subprocess.PIPE, text=True, check=False)
+    except OSError:  # (Windows runs no script of a shell)
+        done = None
+    if not done or done.returncode != 0:
+        raise Refused("there is no audit: neither libring_audit.so.1 nor ./lamport_ring was found")
+    return done.stdout.strip()
 
 
 def found_in(words):
