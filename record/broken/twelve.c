@@ -77,21 +77,20 @@ int main(void) { return explore(reset, produce, consume, HEAD_LINE); }
 #else
 /* The first side waits for the other. */
 static atomic_int here;
-static void wait_for_both(void) {
-    here++;
-    while (here < 2) sched_yield();
+static void meet(void) {
+    for (here++; here < 2;) sched_yield();
 }
 
 static void *run_producer(void *seed) {
     random_state = *(uint64_t *)seed * 11 + 5;
-    wait_for_both();
+    meet();
     produce();
     is_over = true;
     return NULL;
 }
 static void *run_consumer(void *seed) {
     random_state = *(uint64_t *)seed * 13 + 7;
-    wait_for_both();
+    meet();
     consume();
     return NULL;
 }

@@ -1,6 +1,6 @@
-/* live_lines.c: stands in for libring_audit in a test of ring_live.h where there is no library for the system. It judges nothing: it accepts
- * each line and writes it to the file that LIVE_LINES names, so that this is a recording of what the monitor saw, in its order; but the line
- * whose number is in LIVE_FAULT is at fault. */
+/* live_lines.c: stands in for libring_audit, in tests of ring_live.h and ring_audit.hpp on systems for which there may be no library. It
+ * judges nothing: it accepts each line and writes it to the file that LIVE_LINES names, so that this becomes a recording of what the
+ * monitor saw, in its order; but the line whose number is in LIVE_FAULT is at fault. */
 #include "ring_audit.h"
 
 static FILE *file;
@@ -17,8 +17,8 @@ bool ring_audit_begin(ring_audit_state *state, const uint64_t *numbers, size_t c
     return true;
 }
 
-size_t ring_audit_hear(ring_audit_state *state, const ring_audit_line *lines, size_t lines_count, const uint64_t *numbers, size_t numbers_count,
-                       uint8_t *words, size_t words_room, ring_audit_found *found) {
+size_t ring_audit_hear(ring_audit_state *state, const ring_audit_line *lines, size_t lines_count,
+                       const uint64_t *numbers, size_t numbers_count, uint8_t *words, size_t words_room, ring_audit_found *found) {
     const char *fault = getenv("LIVE_FAULT");
     const uint64_t at_fault = fault ? strtoull(fault, NULL, 10) : 0;
     (void)numbers_count;

@@ -92,6 +92,36 @@ REAL = [
     Program("rtrb", "command -v rt", "put the Rattle kit's rt on the PATH", "cd ../crates/record_rtrb && rt run record_rtrb", "../crates/record_rtrb/out/record_rtrb"),
 ]
 
+# A queue for the program my.c.
+RING = """#include <stdatomic.h>
+#ifdef RELAXED
+#define SHOWN memory_order_relaxed
+#else
+#define SHOWN memory_order_release
+#endif
+static uint64_t cells[8];
+static _Atomic uint32_t head = UINT32_MAX - 1000, tail = UINT32_MAX - 1000;
+static int my_put(uint64_t item) {
+    uint32_t t = atomic_load_explicit(&tail, memory_order_relaxed);
+    if (t - atomic_load_explicit(&head, memory_order_acquire) == 8) return 0;
+#ifdef EARLY
+    atomic_store_explicit(&tail, t + 1, SHOWN);
+#endif
+#ifndef STORES_NONE
+    cells[t % 8] = item;
+#endif
+    atomic_store_explicit(&tail, t + 1, SHOWN);
+    return 1;
+}
+static int my_take(uint64_t *item) {
+    uint32_t h = atomic_load_explicit(&head, memory_order_relaxed);
+    if (h == atomic_load_explicit(&tail, memory_order_acquire)) return 0;
+    *item = cells[h % 8];
+    atomic_store_explicit(&head, h + 1, SHOWN);
+    return 1;
+}
+"""
+
 BROKEN = Program("broken", "command -v g++", "apt-get install build-essential", f"{CPP} broken/ring.cpp -o $ROOM/ring", "$ROOM/ring")
 
 # record/shrink and record/head; record/convert; the program my.c; and a ring under Relacy.
@@ -100,12 +130,14 @@ SMALL = Program("shrink and head", "command -v g++", "apt-get install build-esse
 CONVERT = Program("convert", "true", "", "true", "python3 tests/unit/logs.py")
 # The tickets of the recorders, in the model of ARMv8.
 TICKETS = Program("tickets", "true", "", "true", "python3 tests/tickets.py")
+# The recorders on Windows, ARM64 and macOS.
+PORTABLE = Program("portable", "true", "", "true", "python3 tests/portable.py --all")
 README = Program("README", "command -v gcc", "apt-get install build-essential", "true", "")
 RELACY = Program("relacy", "echo '#include <relacy/relacy.hpp>' | g++ -x c++ -E -", "apt-get install relacy-dev",
                  f"{CPP} tests/relacy_ring.cpp -o $ROOM/relacy_ring && {CPP} -DRELAXED tests/relacy_ring.cpp -o $ROOM/relacy_ring_relaxed", "$ROOM/relacy_ring")
 
 # The ring without waits in the middle of a call, and programs that are hard for a hunt.
-HUNT = Program("hunt", "command -v g++ && command -v cc", "apt-get install build-essential",
+HUNT = Program("hunt", "test $(uname) = Linux && command -v g++ && command -v cc", "Linux; apt-get install build-essential",
                f"{CPP} -DNO_HOLD broken/ring.cpp -o $ROOM/ring_that_runs && {C} -g tests/hunt_test.c -o $ROOM/hunt_test && {C} -static tests/hunt_test.c -o $ROOM/hunt_test_static",
                "$ROOM/ring_that_runs")
 

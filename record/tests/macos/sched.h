@@ -1,0 +1,3 @@
+/* A stand-in for macOS's <sched.h>, as README.md says. */
+#pragma once
+int sched_yield(void);
