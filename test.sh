@@ -2,8 +2,8 @@
 # The tests: the program's output and exit status on each example, and what it reports of random histories of queues and registers; failing system
 # calls; the launcher, tools/install, the packages, what is shipped for ARM64, the documents, the steps of docs/USING.md, some of record/; and each #[test],
 # without its proof. The program is the one that ./lamport_ring runs: the shipped one if it was built from these sources. With --prove it is first
-# built here with its proof. What cannot be tested here, for lack of the kit, Python, a C compiler or qemu, is skipped, and the end, or the part
-# itself, says so. ./gate does everything: every proof from nothing, also those of the tests, and the mutants. The last line is
+# built here with its proof. What cannot be tested here, for lack of the kit, Python, a C compiler, qemu or Wine, is skipped, and the end, or
+# the part itself, says so. ./gate does everything: every proof from nothing, also those of the tests, and the mutants. The last line is
 # `N passed, M failed`.
 set -u
 name=test.sh
