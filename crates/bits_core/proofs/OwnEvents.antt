@@ -96,7 +96,7 @@ subhistory_has_one_place s h i place p =
     split : (a b : ℕ) → (a ≤ b) ⊎ (b < a)
     split a b = grind arith
 
--- the next own event is at the side's first place after it
+-- the side's next own event is at its first place after it
 place-first : (s : Side) (h : List Event) → place_of s h 0 ≡ first_place s h
 place-first s [] = refl
 place-first s (e ∷ h) = ap (λ (n : ℕ). if is_by s e then 0 else suc n) (place-first s h)
@@ -135,7 +135,7 @@ own_at s (x ∷ h) (suc place) e at by =
       tick = clock-no s x h (suc place) q ∙ r.tick ∙ ap suc (sym (clock-no s x h place q));
     })
 
--- an own event comes before a place exactly when its number is below the clock there
+-- one of a side's own events comes before a place exactly when its number is below the clock there
 pub clock_counts_places : ClockCountsPlaces
 clock_counts_places s h i place within =
     let q : IsPlaceOf s h i (place_of s h i) = subhistory_has_place s h i within in (

@@ -25,7 +25,7 @@ abbrev pub FaultIsFirst : Type 0
 FaultIsFirst = (shape : Shape) (h : List Event) (place : ℕ) (e : Event) (kind : Kind) → slice_get h place ≡ Some e → IsLawful shape (take place h) → IsFaultAfter shape (take place h) e kind →
     IsFirstFault shape h place kind
 
--- each own event has its place
+-- each of a side's own events has its place
 abbrev pub SubhistoryHasPlace : Type 0
 SubhistoryHasPlace = (s : Side) (h : List Event) (i : ℕ) → i < length (subhistory s h) → IsPlaceOf s h i (place_of s h i)
 
@@ -33,7 +33,7 @@ SubhistoryHasPlace = (s : Side) (h : List Event) (i : ℕ) → i < length (subhi
 abbrev pub SubhistoryHasOnePlace : Type 0
 SubhistoryHasOnePlace = (s : Side) (h : List Event) (i place : ℕ) → IsPlaceOf s h i place → place ≡ place_of s h i
 
--- an own event comes before a place exactly when its number is below the clock there
+-- one of a side's own events comes before a place exactly when its number is below the clock there
 abbrev pub ClockCountsPlaces : Type 0
 ClockCountsPlaces = (s : Side) (h : List Event) (i place : ℕ) → i < length (subhistory s h) → (place_of s h i < place) ↔ (i < clock s h place)
 

@@ -9,7 +9,7 @@ pub enum Side {
     C,
 }
 
-/// A safe bit of a ring of one producer and one consumer.
+/// A safe bit of a ring with one producer and one consumer.
 ///
 /// Each bit has one writer and one reader. `S(i)` and `X` are written by the producer and read by
 /// the consumer, and so is each `Cell(j, i)`; `R(i)` is written by the consumer and read by the

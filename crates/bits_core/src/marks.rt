@@ -1,4 +1,4 @@
-//! What is known of a history so far, updated event by event.
+//! What is known about a history so far, updated event by event.
 ghost use Rattle.std.specs.Prelude.{◌≡◌, ℕ, ◌+◌, ◌<◌, ◌||◌, Bool, false, List, [], ◌∷◌, ◌++◌, Some, length, is_some, slice_index_or};
 ghost use Rattle.bits_core.specs.declared.events.Bit.{Bit};
 ghost use Rattle.bits_core.specs.declared.events.Event.{Event};

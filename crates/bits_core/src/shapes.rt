@@ -35,7 +35,7 @@ pub struct Shape {
 impl Shape {
     ghost use Rattle.bits_core.specs.Shape.{AllFit, HasNumbers, HasBatch, HasBatches, IsRefused, IsRefusedBatch, IsRefusedBatches, batch_of, belongs, capacity_of, modulus_of, take_batch_of, width_of};
 
-    /// The shape of these numbers, whose count writes count one item each: a capacity from 1 to 64, a modulus from
+    /// The shape with these numbers, whose count writes count one item each: a capacity from 1 to 64, a modulus from
     /// the capacity + 2 to 256, and a width from 1 to 64. Otherwise the first of the three that is out of range,
     /// in this order.
     pub fn new(capacity: u64, modulus: u64, width: u64) -> Result<Shape, ShapeFault>
@@ -44,7 +44,7 @@ impl Shape {
         Shape::with_batch(capacity, modulus, width, 1)
     }
 
-    /// The shape of these numbers, whose consumer counts one item each: a capacity from 1 to 64, a batch from 1 to
+    /// The shape with these numbers, whose consumer counts one item each: a capacity from 1 to 64, a batch from 1 to
     /// the capacity, a modulus from the capacity + the batch + 1 to 256, and a width from 1 to 64. Otherwise the
     /// first of the four that is out of range, in this order.
     pub fn with_batch(
@@ -59,7 +59,7 @@ impl Shape {
         Shape::with_batches(capacity, modulus, width, batch, 1)
     }
 
-    /// The shape of these numbers: a capacity from 1 to 64, a batch and a take batch from 1 to the capacity, a
+    /// The shape with these numbers: a capacity from 1 to 64, a batch and a take batch from 1 to the capacity, a
     /// modulus from the capacity + the larger batch + 1 to 256, and a width from 1 to 64. Otherwise the first of the
     /// five that is out of range, in this order; for the modulus that is `ModulusOfBatches` if the take batch is
     /// over 1.

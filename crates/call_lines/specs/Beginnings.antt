@@ -5,7 +5,7 @@ use Rattle.call_lines.specs.LineReading.{line_word_at}
 use Rattle.call_lines.specs.declared.lines.Word.{Word}
 use Rattle.call_lines.specs.declared.lines.Word.TheVariants.{Queue, Cut, Put, Stored, PutSome, Take, Item, TakeSome}
 
--- whether a line of this word states the queue's capacity, as the first line of a recording does, and no other one
+-- whether a line with this word states the queue's capacity, as the first line of a recording does, and no other one
 abbrev pub tells_queue : Word → Bool
 tells_queue Queue = true
 tells_queue Cut = true

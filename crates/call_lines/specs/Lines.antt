@@ -88,7 +88,7 @@ Allows _ _ = ⊥
 abbrev pub AreSmall : List ℕ → Type 0
 AreSmall numbers = All (λ n. n < 2 ^ 64) numbers
 
--- bytes are the line of this word and these numbers
+-- bytes are the line with this word and these numbers
 pub record IsLine (bytes : List ℕ) (word : Word) (numbers : List ℕ) : Type 0 where
   pub text : bytes ≡ line_text word numbers
   pub allowed : Allows word numbers

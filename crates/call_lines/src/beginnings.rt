@@ -8,7 +8,7 @@ use crate::lines::{Word, spaced_number, word_at};
 // How many words there are; they are numbered from 0.
 const WORDS: u32 = 17;
 
-// Whether a line of this word states the queue's capacity.
+// Whether a line with this word states the queue's capacity.
 fn tells_queue(word: Word) -> bool
     ensures { result ≡ tells_queue word }
 {

@@ -102,7 +102,7 @@ impl Word {
         }
     }
 
-    /// The word of this number.
+    /// The word with this number.
     ///
     /// In use: `queue_calls_c`, by which C identifies its lines.
     pub fn of_number(number: u32) -> Option<Word>

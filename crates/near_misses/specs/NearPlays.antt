@@ -19,7 +19,7 @@ use Rattle.queue_calls.specs.declared.events.CallEvent.{CallEvent}
 use Rattle.queue_calls.specs.declared.events.CallEvent.TheVariants.{PutBegins, PutStored, PutFull, CloseBegins, CloseEnds, TakeBegins, TakeItems, TakeEmpty, TakeClosed}
 use Rattle.ring_script.specs.Content.{Content}
 
--- what a script requests, and of which near miss: a number of items, a number of takes, and a close, of a ring of this shape
+-- what a script requests, and from which near miss: a number of items, a number of takes, and a close, on a ring of this shape
 pub record NearAsked : Type 0 where
   pub miss : NearMiss
   pub items : ℕ

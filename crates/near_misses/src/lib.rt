@@ -1,5 +1,5 @@
 //! Five rings that are nearly right, to be played by a script: each breaks one rule of the ring, and the audits have to
-//! find the consequences. Nothing of the ring's law is guaranteed here.
+//! find the consequences. No part of the ring's law is guaranteed here.
 #![tactic(auto)]
 
 mod misses;

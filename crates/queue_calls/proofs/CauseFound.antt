@@ -99,15 +99,15 @@ items_unspoken limit capacity why past first (item ∷ items) (next ∷ rest) (l
 module _ (capacity : Capacity) (past : List Event) (k : Kept) (a : Agrees past k) where
   -- the numbers of a cause, by what is kept
 
-  -- how many were inside at most when the put found no room
+  -- how many, at most, were inside when the put found no room
   pub most_inside : (n inside : ℕ) → k.put ≡ Offers n inside → n_of past - k_of (before_put past) ≡ inside
   most_inside n inside is = let f = as_put past k a (Offers n inside) is in omega (arith, f.2)
 
-  -- and how many are inside at least
+  -- and how many, at least, are inside
   pub least_stored : (n inside count : ℕ) → k.put ≡ Offers n inside → count ≤ n → (n_of past + count) - (k_of past + wanted past) ≡ (length k.inside - (n - count)) - asked_by k.take
   least_stored n inside count is few = let f = as_put past k a (Offers n inside) is in omega (arith, long past k a, asked_is past k a, f.0, few)
 
-  -- with this many items taken, how many are inside at least
+  -- with this many items taken, how many, at least, are inside
   pub least_left : (count : ℕ) → n_of past - (k_of past + count) ≡ (length k.inside - count) - offered_by k.put
   least_left count = omega (arith, long past k a, offered_is past k a)
 

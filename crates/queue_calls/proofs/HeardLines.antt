@@ -79,7 +79,7 @@ events_more b (x ∷ lines) l =
 
 -- ---- lines
 
--- the last of the lines is of the format, and after the first it is a further one
+-- the last of the lines is in the format, and after the first it is a further one
 All-last : (further : List Line) (l : Line) → All IsFurther (further ++ l ∷ []) → IsFurther l
 All-last [] l all = All-head IsFurther l [] all
 All-last (x ∷ further) l all = All-last further l (All-tail IsFurther x (further ++ l ∷ []) all)

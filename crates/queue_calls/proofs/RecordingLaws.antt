@@ -21,7 +21,7 @@ use Rattle.call_lines.proofs.LineLemmas.{line_same, line_no_feed}
 use Rattle.line_parts.proofs.LineFeeds.{feed_nowhere, feed_once}
 use Rattle.queue_calls.proofs.RecordingLemmas.{line_and}
 
--- well-formed lines are of the format
+-- well-formed lines are in the format
 are_of_format : (lines : List Line) → AreLines lines → All IsOfFormat lines
 are_of_format [] are = All-nil IsOfFormat
 are_of_format (first ∷ further) are = All-cons IsOfFormat first further are.1 (λ k d inside. (are.2 k d inside).1)

@@ -11,7 +11,7 @@ use Rattle.queue_calls.specs.declared.faults.Fault.{Fault}
 use Rattle.queue_calls.specs.declared.faults.Fault.TheVariants.{OutOfTurn, NotLinearizable, OutOfMemory}
 use Rattle.queue_calls.specs.declared.turns.PutTurn.TheVariants.{Free}
 
--- the outcome of a call that passed `count` of at most `most` items, and says why not more or does not: that number, and the number for
+-- the outcome of a call that passed `count` of at most `most` items, and says why no more, or does not: that number, and the number for
 -- which it found no room or no items, 0 if it reports none; nothing if it cannot have passed them
 abbrev pub passed : Bool → (count most : ℕ) → Option (ℕ × ℕ)
 passed why count most = if nat_lt 0 count && nat_le count most then Some (count, short_of why count (most - count)) else None

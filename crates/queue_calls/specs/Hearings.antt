@@ -36,7 +36,7 @@ hearing_of state offered taken = record {
 abbrev pub HasHeardAll : {S O T N B : Type 0} → (offered : O → List Offered) → (last : T → List Taken) → Hearing S O T N B → Capacity → List Event → Type 0
 HasHeardAll offered last hearing capacity events = Remembers offered last hearing.witness capacity events × IsTallied capacity events hearing.tally
 
--- After such events, one more, on the line of this number: it is heard; or this is the first fault, and everything is unchanged.
+-- After such events, one more, on the line with this number: it is heard; or this is the first fault, and everything is unchanged.
 abbrev pub HearsNext : {S O T N B : Type 0} → (offered : O → List Offered) → (last : T → List Taken) → Hearing S O T N B → (number : ℕ) → Event → Option CallsFinding → Hearing S O T N B → Type 0
 HearsNext offered last old number event found new =
     (capacity : Capacity) (events : List Event) → HasHeardAll offered last old capacity events → length events + 2 ≡ number →
@@ -47,7 +47,7 @@ HearsNext offered last old number event found new =
 abbrev pub FollowsLines : {S O T N B : Type 0} → (offered : O → List Offered) → (last : T → List Taken) → Hearing S O T N B → Bool → List Line → Type 0
 FollowsLines offered last hearing is_cut lines = AreLines lines × HeardLines offered last hearing is_cut lines × (hearing.fault ≡ None)
 
--- why a line is not heard after others, on the line of this number: it cannot come there, and everything is unchanged; or a list with
+-- why a line is not heard after others, on the line with this number: it cannot come there, and everything is unchanged; or a list with
 -- this much room is too short, that of the items inside or that of the `limit` items taken last
 abbrev pub RefusesNextLine : {S O T N B : Type 0} → (offered : O → List Offered) → (last : T → List Taken) → (limit offered_room taken_room : ℕ) → Bool → List Line → (number : ℕ) → Line → RecordingFault →
     Hearing S O T N B → Type 0
@@ -61,7 +61,7 @@ IsNotLawful (Lawful report) = ⊥
 IsNotLawful (OutOfTurn number) = ⊤
 IsNotLawful (NotLinearizable number cause) = ⊤
 
--- After such lines, one more, of this number: it is heard; or it is the first at fault, this is the finding on the text of all of them,
+-- After such lines, one more, with this number: it is heard; or it is the first at fault, this is the finding on the text of all of them,
 -- and everything is unchanged; or it is refused.
 abbrev pub HearsLine : {S O T N B : Type 0} → (offered : O → List Offered) → (last : T → List Taken) → (offered_room taken_room : ℕ) → Hearing S O T N B → (number : ℕ) → Word → List ℕ →
     Result (Option CallsFinding) RecordingFault → Hearing S O T N B → Type 0

@@ -86,7 +86,7 @@ next_event end [] = end
 next_event end (Comes e ∷ calls) = e.number
 next_event end (Makes d ∷ calls) = next_event end calls
 
--- the operations of calls, after the event of this number
+-- the operations of calls, after the event with this number
 abbrev pub recorded_operations : Side → (end start : ℕ) → List OwnStep → List RecordedOperation
 recorded_operations s end start [] = []
 recorded_operations s end start (Comes e ∷ calls) = recorded_operations s end e.number calls

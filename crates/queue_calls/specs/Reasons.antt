@@ -192,7 +192,7 @@ not_taken_cause capacity count past =
     let least : ℕ = n_of past - (k_of past + count) in
     if can_hold capacity least then None else Some (NotTaken least (line_behind (before_stored past)))
 
--- for a take that took the next `count` items, and says why it took no more, or not
+-- for a take that took the next `count` items, and says why it took no more if `why` is true
 abbrev pub fewer_cause : Capacity → ℕ → Bool → List Event → Option Cause
 fewer_cause capacity count why past =
     if why && (nat_lt count (wanted past) && nat_lt (k_of past + count) (n_of (before_take past))) then Some (NoMoreWhileInside (at (coming past) count)) else

@@ -34,7 +34,7 @@ text_of l = line_text l.word l.numbers ++ codes "\n"
 abbrev pub lines_text : List Line → List ℕ
 lines_text lines = flat_map text_of lines
 
--- a line is of the format
+-- a line is in the format
 abbrev pub IsOfFormat : Line → Type 0
 IsOfFormat l = Allows l.word l.numbers × AreSmall l.numbers
 
@@ -131,7 +131,7 @@ pub record IsRecording (bytes : List ℕ) (capacity : Capacity) (events : List E
   pub tells_capacity : capacity ≡ capacity_told first
   pub tells_events : events ≡ events_told begun.Nothing further
 
--- the line of this number is the first that is missing, unfinished, or malformed: lines before it, and something after them, or
+-- the line with this number is the first that is missing, unfinished, or malformed: lines before it, and something after them, or
 -- nothing before the first one, that does not begin with a line that may come there
 pub record IsBadLine (bytes : List ℕ) (number : ℕ) : Type 0 where
   pub before : List Line
@@ -148,7 +148,7 @@ RefusesText (BadLine number) bytes = IsBadLine bytes number
 RefusesText TooLong bytes = 2 ^ 64 - 1 ≤ length bytes
 RefusesText OutOfMemory bytes = Unit {0}
 
--- the event of the line of this number is the first one at which the history is not linearizable
+-- the event of the line with this number is the first one at which the history is not linearizable
 pub record StopsAt (capacity : Capacity) (events : List Event) (number : ℕ) (Says : List Event → Event → Type 0) : Type 0 where
   pub before : List Event
   pub event : Event

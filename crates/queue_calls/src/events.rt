@@ -57,8 +57,8 @@ pub enum CallEvent<P, T> {
 /// `uses::calls::first_at_fault`.
 pub type Event<'a> = CallEvent<&'a [u64], &'a [u64]>;
 
-// The outcome of a call that passed this many of its items, and says why not more or does not: that number, and the number for which it
-// found no room or no items, 0 if it reports none. `None` if it cannot have passed them.
+// The outcome of a call that passed this many of its items, and says why no more or does not: that number, and the
+// number for which it found no room or no items, 0 if it reports none. `None` if it cannot have passed them.
 #[inline(always)]
 fn passed(why: bool, count: usize, most: usize) -> Option<(usize, usize)>
     ensures { result ≡ passed why count most }

@@ -37,7 +37,7 @@ impl Fault {
 /// In use: `uses::findings::found_in`.
 #[derive(Clone, Copy, PartialEq, Eq, Debug)]
 pub enum RecordingFault {
-    /// This line, counted from 1, is missing or unfinished, or not of the format.
+    /// This line, counted from 1, is missing or unfinished, or not in the format.
     BadLine(u64),
     /// There are more lines than a number of 64 bits counts.
     TooLong,

@@ -269,8 +269,8 @@ impl<S: Storage> Hearing<S> {
         }
     }
 
-    /// Hears the next line, of this number, after those of a recording in which no fault was found. Returns the fault that the
-    /// recording has with this line; the line is then not kept.
+    /// Hears the next line, number `line`, after those of a recording in which no fault was found. Returns the fault
+    /// that the recording has with this line; the line is then not kept.
     ///
     /// `BadLine` if a line with this word and these numbers cannot come there; it is not kept either. `OutOfMemory` if room was
     /// refused for the items inside or for those taken last; then the hearing is of no further use.

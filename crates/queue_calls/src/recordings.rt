@@ -170,11 +170,11 @@ impl<S: Storage> RecordingIn<S> {
 
     /// Reads the next piece of the text.
     ///
-    /// `BadLine` at the first line that is not of the format, whatever comes after it, even if the history has a fault before it: at its
-    /// end, or before its end if it outgrew what is kept of a line that has not ended; `TooLong` after 2^64 - 1 lines; `OutOfMemory` if a
-    /// growth was refused, or a list in slots is too short: for the items that are inside or offered, for the last
-    /// [`TAKEN_LIMIT`](crate::TAKEN_LIMIT) taken, for the numbers of a line, or for its bytes. A recording that has returned one of these
-    /// is of no further use.
+    /// `BadLine` at the first line that is not in the format, whatever comes after it, even if the history has a fault
+    /// before it: at its end, or before its end if it outgrew what is kept of a line that has not ended; `TooLong`
+    /// after 2^64 - 1 lines; `OutOfMemory` if a growth was refused, or a list in slots is too short: for the items that
+    /// are inside or offered, for the last [`TAKEN_LIMIT`](crate::TAKEN_LIMIT) taken, for the numbers of a line, or for
+    /// its bytes. A recording that has returned one of these is of no further use.
     pub fn read(&mut self, piece: &[u8]) -> Result<(), RecordingFault>
         ensures read { OnOk result ((bytes : List ℕ) →
             HasRead S.Offered.items S.Taken.items S.Bytes.items self.old bytes →

@@ -32,7 +32,7 @@ fn other_numbers<'n>(line: &WordLine, numbers: &'n [u64]) -> &'n [u64]
     &numbers[(line.count as usize).min(numbers.len())..]
 }
 
-// Hears one line, of this number, and returns the verdict.
+// Hears one line, which has this number, and returns the verdict.
 fn hear_one(hearing: &mut Hearing<Lent<'_>>, number: u64, line: &WordLine, numbers: &[u64]) -> Heard
     ensures says { (before : List recordings.Line) → FollowsLines ring_items ring_items hearing.old false before →
         length before + 1 ≡ number →

@@ -28,7 +28,7 @@ by_test a b P x y f g = elim (eqb_tells a b) [
   | inr apart ↦ subst P (sym (left (a == b) x y apart.0)) (g apart.1)
 ]
 
--- what is known of the rest of a linearization: k represents the last write so far, and the register holds its value
+-- what is known about the rest of a linearization: k represents the last write so far, and the register holds its value
 record Reaches (first : ℕ) (h : List RegisterEvent) (k held : ℕ) (order : List RegisterOperation) : Type 0 where
   holds : Holds first h k held
   each : (o : RegisterOperation) → IsOrdered o order → IsOperationOf h o

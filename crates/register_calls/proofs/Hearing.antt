@@ -379,7 +379,7 @@ module _ (r : Register) (h : List RegisterEvent) (kept : List ℕ) (base begun :
     | inr read ↦ (let p = k.needed read.0 read.1 read.2 in let q = read.3 in omega (arith, p, q))
   ]
 
-  -- a write begins, by what is known of the numbers
+  -- a write begins, by what is known about the numbers
   pub write_begins_as :
       (v : ℕ) (more : List ℕ) (next : ℕ) → IsValue r v → writing ≡ false → next ≡ suc begun → more ≡ kept ++ v ∷ [] → KeepsHistory r h kept base begun writing readers floor safe regular each all →
       KeepsHistory r (WriteBegins v ∷ h) more base next true readers floor safe regular each all

@@ -51,7 +51,7 @@ module _ (scope : Scope) where
     | inr early ↦ later_at of j n b p i v none.0 seen early.1
   ]
 
--- what is known of a read in an order
+-- what is known about a read in an order
 record Known (first : ℕ) (of : Choice) (h : List RegisterEvent) (start stop v : ℕ) : Type 0 where
   few : of stop ≤ started h
   may : MayBeOf first h start stop v (code h (of stop))
@@ -63,7 +63,7 @@ known_more first of e b start stop v le few known = record {
 }
 
 module _ (scope : Scope) (r : Register) (of : Choice) where
-  -- what is known of each read of a history
+  -- what is known about each read of a history
   abbrev IsKnown : List RegisterEvent → Type 0
   IsKnown h = (i start stop v : ℕ) → IsReadFrom h i start stop v → Known r.first of h start stop v
 

@@ -40,7 +40,7 @@ code (WriteEnds ∷ b) n = code b n
 code (ReadBegins i ∷ b) n = code b n
 code (ReadEnds i v ∷ b) n = code b n
 
--- the write of this number begins at this place, with its value
+-- the write with this number begins at this place, with its value
 pub record Stands (first : ℕ) (h : List RegisterEvent) (n w : ℕ) : Type 0 where
   pub value : ℕ
   pub coded : code h n ≡ suc w

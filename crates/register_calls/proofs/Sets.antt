@@ -1,4 +1,4 @@
--- Items of lists: of one with one more, of two, one after the other, and after a prefix that is left out.
+-- The items of a list with one more, of two lists one after the other, and of a list without a prefix.
 use Rattle.std.proofs.Common.{◌≡◌, ◌⊎◌, ◌<◌, inl, inr, ℕ, zero, suc, Some, None, List, [], ◌∷◌, ◌++◌, ◌+◌, drop, length, refl, ap, sym, ◌∙◌, arith}
 use Rattle.std.specs.Prelude.{slice_get}
 use Rattle.std.proofs.lemmas.Option.{none-some, same_Some}

@@ -1,4 +1,4 @@
--- The classes of registers of one writer (Lamport, 1986), for histories: safe, regular, atomic; and atomic by reader.
+-- The classes of registers with one writer (Lamport, 1986), for histories: safe, regular, atomic; and atomic by reader.
 use Rattle.std.specs.Prelude.{◌≡◌, ℕ, ◌≤◌, ◌==◌, Bool, true, Option, Some, None, List, [], ◌∷◌, length, slice_get}
 use Rattle.register_calls.specs.declared.events.Register.{Register}
 use Rattle.register_calls.specs.declared.events.RegisterEvent.{RegisterEvent}
@@ -7,7 +7,7 @@ use Rattle.register_calls.specs.declared.events.Class.{Class}
 use Rattle.register_calls.specs.declared.events.Class.TheVariants.{Safe, Regular, AtomicByReader, Atomic}
 use Rattle.register_calls.specs.Histories.{IsValue, started, finished, written_values, before_read}
 
--- A read, before whose start and before whose end these events come, may be of the write of this number, and returns its value: the
+-- A read, before whose start and before whose end these events come, may be of the write with this number, and returns its value: the
 -- last write that had ended when the read began, or a later one that had begun when it ended.
 abbrev pub IsOf : (first : ℕ) → (start stop : List RegisterEvent) → (value number : ℕ) → Type 0
 IsOf first start stop value number = (finished start ≤ number) × (number ≤ started stop) × (slice_get (written_values first stop) number ≡ Some value)
@@ -51,8 +51,8 @@ NoneIsLater s of i number (WriteEnds ∷ before) = NoneIsLater s of i number bef
 NoneIsLater s of i number (ReadBegins j ∷ before) = NoneIsLater s of i number before
 NoneIsLater s of i number (ReadEnds j v ∷ before) = NoneIsLater s of i number before × (sees s i j ≡ true → of (length before) ≤ number)
 
--- each read is of the write that was chosen for it, and of no earlier one than a read that it has to respect and that had ended when it
--- began
+-- each read is of the write that was chosen for it, which is no earlier than the write of any read that had ended when it began and that
+-- it has to respect
 abbrev pub Orders : Scope → (first : ℕ) → Choice → List RegisterEvent → Type 0
 Orders s first of [] = Unit {0}
 Orders s first of (WriteBegins v ∷ before) = Orders s first of before

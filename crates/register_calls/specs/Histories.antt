@@ -1,4 +1,4 @@
--- Histories of a register of one writer and several readers: the list of its events, the last one first. The writes are numbered from 1
+-- Histories of a register with one writer and several readers: the list of its events, the last one first. The writes are numbered from 1
 -- in their order; number 0 is the first value.
 use Rattle.std.specs.Prelude.{◌≡◌, ◌⊎◌, ℕ, suc, ◌<◌, ◌==◌, Bool, true, false, Option, Some, None, List, [], ◌∷◌, ◌++◌, if◌then◌else◌}
 use Rattle.register_calls.specs.declared.events.Register.{Register}

@@ -12,7 +12,7 @@ use Rattle.register_calls.specs.Histories.{IsValue, IsWellFormed, IsBeginning, s
 use Rattle.register_calls.specs.Classes.{Scope, Together, EachAlone, sees, HasClass}
 use Rattle.register_calls.specs.Judging.{HasNone}
 
--- the write of this number begins at this place
+-- the write with this number begins at this place
 abbrev pub BeginsAt : List RegisterEvent → (number place : ℕ) → Type 0
 BeginsAt h number place = (before : List RegisterEvent) × (v : ℕ) × IsBeginning (WriteBegins v ∷ before) h × (number ≡ suc (started before)) × (place ≡ length before)
 
@@ -20,9 +20,9 @@ BeginsAt h number place = (before : List RegisterEvent) × (v : ℕ) × IsBeginn
 abbrev pub HasNoneUpTo : (values : List ℕ) → (from to value : ℕ) → Type 0
 HasNoneUpTo values from to value = (n : ℕ) → from ≤ n → n < to → slice_get values n ≢ Some value
 
--- The first of these reads had ended, is one that the reader has to respect, and is of the write of this number or of a later one: it is of
--- none before a lower number, as these had ended when it began, or by the other reads; and from there up to this number no write is of its
--- value.
+-- The first of these reads had ended, the reader has to respect it, and it is of the write with this number or of a later one: for some
+-- lower number it is of no earlier write, because the write with that number had ended when it began, or because of the other reads; and
+-- from there up to this number no write is of its value.
 abbrev pub IsBound : Scope → (first : ℕ) → List EarlierRead → (reader : ℕ) → List RegisterEvent → (number : ℕ) → Type 0
 IsBound s first [] i h number = number ≡ 0
 IsBound s first (read ∷ reads) i h number =

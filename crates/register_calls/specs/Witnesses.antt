@@ -53,12 +53,12 @@ pub record RemembersRegister {W R P C : Type 0} (window : W → List ℕ) (state
       (lows (states w.auditor.readers)) (λ i. chain_at (chains w.low) i)
   pub tallies : TalliesRegister w.tally h
 
--- the read that ends now, as a chain reports it, with the place where the write of this number began
+-- the read that ends now, as a chain reports it, with the place where the write with this number began
 abbrev pub link_of : (places : List ℕ) (base count reader value number : ℕ) → EarlierRead
 link_of places base count i v n = record { reader = i; ended = count; value = v; written = slice_index_or places (n - base) 0 }
 
--- The chain of a floor after a read that ends, which is of the write of this number or of a later one: if that write comes after the floor,
--- the read, and after it the chain that shows why it is of none before; otherwise the chain is unchanged.
+-- The chain of a floor after a read that ends, which is of the write with this number or of a later one: if that write comes after the
+-- floor, the read, and after it the chain that shows why it is of none before; otherwise the chain is unchanged.
 abbrev pub IsRaisedChain : (chain leaning : Chain) (floor : ℕ) → Option ℕ → (link : ℕ → EarlierRead) → (next : Chain) → Type 0
 IsRaisedChain chain leaning floor None link next = next ≡ chain
 IsRaisedChain chain leaning floor (Some n) link next =

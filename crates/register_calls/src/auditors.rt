@@ -276,7 +276,7 @@ impl<W: Fifo<u64>, R: Fifo<ReaderState>> RegisterAuditor<W, R> {
         }
     }
 
-    // The first place of the value among the writes that are kept, from the write of this number on.
+    // The first place of the value among the writes that are kept, from the write with this number on.
     fn place(&self, from: usize, value: u64) -> Option<usize>
         ensures { IsFirstPlace (W.items self.now.window) (from - self.now.base) value result }
     {

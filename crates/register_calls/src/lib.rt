@@ -1,5 +1,5 @@
-//! Recorded histories of one register of one writer and several readers (Lamport 1986): which of the classes safe, regular and
-//! atomic a history has, judged event by event.
+//! Recorded histories of one register with one writer and several readers (Lamport 1986): which of the classes safe,
+//! regular and atomic a history has, judged event by event.
 #![tactic(auto)]
 
 mod auditors;

@@ -59,7 +59,7 @@ fn either(one: bool, other: bool) -> bool
 }
 
 impl RegisterTally {
-    // Of a history with no event.
+    // The tally of a history with no event.
     pub(crate) fn new() -> RegisterTally
         ensures { TalliesRegister result [] }
     {

@@ -147,7 +147,7 @@ impl<W: Fifo<u64>, R: Fifo<ReaderState>, P: Fifo<usize>, C: Fifo<Chain>> Registe
         self.auditor.register()
     }
 
-    // The place where the write of this number began, of those kept.
+    // The place where the write with this number began, of those kept.
     fn place(&self, number: usize) -> usize
         ensures { result ≡ slice_index_or (P.items self.now.places) (number - self.now.auditor.base) 0 }
     {
@@ -157,7 +157,7 @@ impl<W: Fifo<u64>, R: Fifo<ReaderState>, P: Fifo<usize>, C: Fifo<Chain>> Registe
         }
     }
 
-    // The read that ends now, as a read of the write of this number.
+    // The read that ends now, as a read of the write with this number.
     fn link(&self, reader: usize, value: u64, number: usize) -> EarlierRead
         ensures { result ≡ link_of (P.items self.now.places) self.now.auditor.base self.now.count reader value number }
     {
@@ -170,7 +170,7 @@ impl<W: Fifo<u64>, R: Fifo<ReaderState>, P: Fifo<usize>, C: Fifo<Chain>> Registe
         }
     }
 
-    // The read that ends now, as a read of the write of this number, if there is one and it raises the floor.
+    // The read that ends now, as a read of the write with this number, if there is one and it raises the floor.
     fn raising_link(
         &self,
         floor: usize,

@@ -30,7 +30,7 @@ record BegunWord (width j : ℕ) (h : List Event) (q n : ℕ) : Type 0 where
   pub word : IsWordWrite width j h n start stop
 
 module _ (shape : Shape) (h : List Event) (lawful : IsLawful shape h) (width j : ℕ) where
-  -- the item at a number is the digit write of that number
+  -- the item at a number is the digit write with that number
   digit_write : (q n : ℕ) (r : IsNumbered (cell_write j) h q n) → IsDigitWrite j h n r.place (end_of P h r.place)
   digit_write q n r =
       let begins : begun_by r.event ≡ Some (Write (Cell j r.what.bit) r.what.value) = cell_write-from j r.event r.what r.begins_it in

@@ -190,7 +190,7 @@ feed-left w after within same x rest e =
     let here : x.bit < length w.bits = omega (arith, p.fits, within) in
     ap due_writes same ∙ ap (λ ws. due_writes (row_with w ws)) e ∙ ap (λ f. unary_phrase f w.value) (bit_in-set w.bits x here) ∙ p.left
 
--- The state once the due write has been made stands after the list with that write.
+-- Once the due write has been made, the state stands after the list with that write.
 pub feed-stands :
     (w after : UnaryState) → after ≡ row_fed w → (answer : Bool) →
     (values : List ℕ) (made : List Made) (access : Access) →

@@ -29,7 +29,7 @@ number_in_count C (Cell j i) = None
 abbrev pub count_write : Side → Event → Option RowWrite
 count_write s e = row_write (number_in_count s e.bit) e.act
 
--- the writes to the bits of a side's count that began, in order
+-- the writes that have begun, in order, to the bits of a side's count
 abbrev pub count_begun : Side → List Event → List RowWrite
 count_begun s h = filter_map (count_write s) h
 

@@ -22,7 +22,7 @@ number_in_cell j (Cell l i) = cond (nat_eq j l) (Some i) None
 abbrev pub cell_write : ℕ → Event → Option RowWrite
 cell_write j e = row_write (number_in_cell j e.bit) e.act
 
--- the writes to the digits of the cell that began, in order
+-- the writes that have begun, in order, to the digits of the cell
 abbrev pub cell_writes : ℕ → List Event → List RowWrite
 cell_writes j h = filter_map (cell_write j) h
 

@@ -47,7 +47,7 @@ RefusesFirstLine (BadLine number) l = (number ≡ 1) × (recorded_register l ≡
 RefusesFirstLine TooLong l = ⊥
 RefusesFirstLine OutOfMemory l = Unit {0}
 
--- an event was read after these, of the line of this number
+-- an event was read after these, of the line with this number
 pub record HasReadLineEvent {W R P C : Type 0} (window : W → List ℕ) (states : R → List ReaderState) (places : P → List ℕ) (chains : C → List Chain) (old : JudgedLines W R P C) (number : ℕ) (event : RegisterEvent) (before : List RegisterEvent) (new : JudgedLines W R P C) : Type 0 where
   pub count : new.count ≡ number
   pub is_cut : new.is_cut ≡ old.is_cut
@@ -55,13 +55,13 @@ pub record HasReadLineEvent {W R P C : Type 0} (window : W → List ℕ) (states
   pub value : WritesValue old.witness.auditor.register event
   pub events : HasReadEvents window states places chains new new.out_of_turn (before ++ event ∷ [])
 
--- why an event after these, of the line of this number, is refused
+-- why an event after these, of the line with this number, is refused
 abbrev pub RefusesLineEvent : (number : ℕ) → RegisterTextFault → Register → List RegisterEvent → RegisterEvent → Type 0
 RefusesLineEvent number (BadLine line) r before event = (line ≡ number) × ¬ WritesValue r event
 RefusesLineEvent number TooLong r before event = 2 ^ 64 - 1 ≤ length before
 RefusesLineEvent number OutOfMemory r before event = Unit {0}
 
--- after any events that were read, the event of the next line, of this number, is read or refused
+-- after any events that were read, the event of the next line, which has this number, is read or refused
 abbrev pub ReadsLineEvent :
     {W R P C T : Type 0} → (window : W → List ℕ) → (states : R → List ReaderState) → (places : P → List ℕ) → (chains : C → List Chain) →
     JudgedLines W R P C → (number : ℕ) → RegisterEvent → Result T RegisterTextFault → JudgedLines W R P C → Type 0

@@ -74,7 +74,7 @@ pub record IsRegisterRecording (bytes : List ℕ) (r : Register) (events : List 
   pub gives_register : recorded_register head ≡ Some r
   pub gives_events : filter_map recorded_event further ≡ events
 
--- the line of this number is the first that is missing, unfinished, or malformed: lines before it, and something after them, or nothing
+-- the line with this number is the first that is missing, unfinished, or malformed: lines before it, and something after them, or nothing
 -- before the first one, that does not begin with a line that may come there
 pub record IsBadRegisterLine (bytes : List ℕ) (number : ℕ) : Type 0 where
   pub before : List RegisterLine
@@ -91,7 +91,7 @@ RefusesRegisterText (BadLine number) bytes = IsBadRegisterLine bytes number
 RefusesRegisterText TooLong bytes = 2 ^ 64 - 1 ≤ length bytes
 RefusesRegisterText OutOfMemory bytes = Unit {0}
 
--- the event of the line of this number is the first that is out of turn
+-- the event of the line with this number is the first that is out of turn
 pub record LeavesTurn (r : Register) (events : List RegisterEvent) (number : ℕ) : Type 0 where
   pub before : List RegisterEvent
   pub event : RegisterEvent

@@ -136,8 +136,8 @@ impl<W: Fifo<u64>, R: Fifo<ReaderState>, P: Fifo<usize>, C: Fifo<Chain>> JudgedL
         Ok(())
     }
 
-    // Reads the event of a further line, of this number. After an event that is out of turn no history is judged, but a write must
-    // still be of a value of the register.
+    // Reads the event of a further line, which has this number. After an event that is out of turn no history is
+    // judged, but a write must still be of a value of the register.
     fn hear(&mut self, count: u64, event: RegisterEvent) -> Result<(), RegisterTextFault>
         ensures { ReadsLineEvent W.items R.items P.items C.items self.old count event result self.new }
     {
@@ -350,10 +350,10 @@ impl<
 
     /// Reads the next piece of the text.
     ///
-    /// `BadLine` at the first line that is not of the format, that writes a number that is not a value of the register, or that is a
-    /// first line and not the first; at its end, or before its end if it grew longer than any line is. `TooLong` after 2^64 - 1 lines;
-    /// `OutOfMemory` if a growth was refused, or if a list in slots is too short. A recording that returned one of these is of no
-    /// further use.
+    /// `BadLine` at the first line that is not in the format, that writes a number that is not a value of the register,
+    /// or that is a first line and not the first; at its end, or before its end if it grew longer than any line is.
+    /// `TooLong` after 2^64 - 1 lines; `OutOfMemory` if a growth was refused, or if a list in slots is too short. A
+    /// recording that returned one of these is of no further use.
     pub fn read(&mut self, piece: &[u8]) -> Result<(), RegisterTextFault>
         ensures read { OnOk result ((bytes : List ℕ) → HasReadRegister W.items R.items P.items C.items B.items self.old bytes →
             HasReadRegister W.items R.items P.items C.items B.items self.new (bytes ++ piece.now)) }

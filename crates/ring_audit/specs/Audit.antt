@@ -1,4 +1,4 @@
--- What an audit of a history reports: on its bits and of the programs of its two sides.
+-- What an audit of a history reports: about its bits, and about the programs of its two sides.
 use Rattle.std.specs.Prelude.{◌≡◌, ℕ, suc, ◌+◌, ◌<◌, ◌≤◌, ◌⊎◌, ◌↔◌, Bool, true, false, IsTrue, List, length, take}
 use Rattle.bits_core.specs.declared.events.Event.{Event}
 use Rattle.bits_core.specs.declared.faults.Kind.{Kind}

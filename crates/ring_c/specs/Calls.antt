@@ -154,7 +154,7 @@ ReportsTold (Some a) end told = (end ≡ Some a) × TellsAre a.ring.shape a.list
 
 -- ---- how a ring is made, and ended
 
--- the two ends of a new ring of these numbers
+-- the two ends of a new ring with these numbers
 pub record Opened (capacity modulus width batch take_batch : ℕ) (putter taker : Option RingEnd) : Type 0 where
   pub shape : Shape
   pub shape_is : HasBatches capacity modulus width batch take_batch shape
@@ -186,7 +186,7 @@ RefusesOpen capacity modulus width batch take_batch code p c =
     (((f : ShapeFault) × IsRefusedBatches capacity modulus width batch take_batch f × (code ≡ shape_number f)) ⊎
     ((shape : Shape) × HasBatches capacity modulus width batch take_batch shape × (code ≡ 6))))
 
--- with the number 0 the handles have these two ends; else it is refused, and nothing is changed
+-- with the number 0 the handles have these two ends; otherwise it is refused, and nothing is changed
 abbrev pub OpensBy : (capacity modulus width batch take_batch code : ℕ) → (p p' c c' : Option RingEnd) → Type 0
 OpensBy capacity modulus width batch take_batch code p p' c c' =
     ((code ≡ 0) × (p ≡ None) × (c ≡ None) × Opened capacity modulus width batch take_batch p' c') ⊎

@@ -59,7 +59,7 @@ take_all [] (suc i) l = refl
 take_all (x ∷ xs) zero l = absurd (omega (arith, l))
 take_all (x ∷ xs) (suc i) l = ap (λ l. x ∷ l) (take_all xs i (omega (arith, l)))
 
--- an own event is in the history
+-- each of a side's own events is in the history
 pub place_within : (s : Side) (h : List Event) (i place : ℕ) → IsPlaceOf s h i place → place < length h
 place_within s h i place q = elim (at_most_or_above (length h) place) [
   | inr l ↦ l

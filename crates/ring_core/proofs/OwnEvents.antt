@@ -39,7 +39,7 @@ own_take s h place =
 pub clock_end : (s : Side) (h : List Event) → clock s h (length h) ≡ length (subhistory s h)
 clock_end s h = ap (λ l. length (subhistory s l)) (take-length h)
 
--- an own event has one place
+-- each of a side's own events has one place
 pub one_place : (s : Side) (h : List Event) (i place : ℕ) → IsPlace (clock s h) i place → place ≡ place_of s h i
 one_place s h i place (before, past) =
     let q = subhistory_has_place s h i (omega (arith, past, clock_within s h (suc place))) in

@@ -188,13 +188,13 @@ module _ (shape : Shape) (h : List Event) (puts : Puts) (takes : Takes) (run : I
   at_end s stop e (inl q) = omega (arith, q.before)
   at_end s stop e (inr (few, past)) = omega (arith, few, clock_within s h stop)
 
-  -- an own event comes before the end of an interval that ends with a later one
+  -- one of a side's own events comes before the end of an interval that ends with a later one
   by_end : (s : Side) (start stop i e : ℕ) → IsPlaceOf s h i start → IsPlaceOf s h e stop ⊎ ((length (subhistory s h) ≤ e) × (stop ≡ length h)) → stop < start → i ≤ e → ⊥
   by_end s start stop i e q (inl r) l m = absurd (omega (arith, clock_rises s h (suc stop) start l, r.past, q.before, m))
   by_end s start stop i e q (inr (few, past)) l m =
       absurd (omega (arith, clock_rises s h stop start (omega arith), ap (clock s h) past, clock_end s h, q.before, q.past, clock_within s h (suc start)))
 
-  -- an event of the producer is none of the consumer, and none past the end
+  -- an event of the producer is not one of the consumer, and not past the end
   apart : (start stop i e : ℕ) → IsPlaceOf P h i start → IsPlaceOf C h e stop ⊎ ((length (subhistory C h) ≤ e) × (stop ≡ length h)) → start ≡ stop → ⊥
   apart start stop i e q (inl r) same =
       let both : clock C h (suc start) ≡ suc (clock C h start) = ap (λ t. clock C h (suc t)) same ∙ r.past ∙ ap suc (sym r.before) ∙ ap (λ t. suc (clock C h t)) (sym same) in

@@ -97,7 +97,7 @@ none-close s true = ((λ (v, e). absurd (cc)), tt)
 
 -- ---- the look
 
--- the span of the look whose scan begins with this own event
+-- the span of the look whose scan begins with this one of the side's own events
 pub record ScanSpan (s : Side) (xs : List Span) (start seen : ℕ) : Type 0 where
   pub number : ℕ
   pub span : Span

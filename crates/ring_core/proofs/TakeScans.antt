@@ -50,7 +50,7 @@ open_keeps p s answer at is one fed open_still =
 pub open_on : (p : ConsumerState) (s : ScanState) (answer : Bool) → IsAtScan p → ScanGoesOn p.scan s answer → ConsumerMoves p answer (record p { scan = s })
 open_on p s answer at goes = ⊎_elim (λ e. scan_on p s answer e goes) (λ e. rescan_on p s answer e goes) at
 
--- what is known of a scan once it has a value: it is one of the producer's count
+-- what is known about a scan once it has a value: it is one of the producer's count
 pub record HasGiven (p : ConsumerState) (s : ScanState) (answer : Bool) (seen : ℕ) : Type 0 where
   pub at : IsAtScan p
   pub fresh : p.items ≡ []

@@ -21,11 +21,11 @@ pub record IsCallAt {X : Type 0} (phrases : List X → List Made) (items : List 
   pub starts : start ≡ events_in (phrases before)
   pub stops : stop ≡ events_in (phrases (before ++ x ∷ []))
 
--- this put has these own events
+-- this put has these of the producer's own events
 abbrev pub IsPutAt : Shape → Puts → Put → (n start stop : ℕ) → Type 0
 IsPutAt shape calls = IsCallAt (put_phrases shape first_count) (stored_in 0) calls.puts
 
--- this take has these own events
+-- this take has these of the consumer's own events
 abbrev pub IsTakeAt : Shape → Takes → Take → (k start stop : ℕ) → Type 0
 IsTakeAt shape calls = IsCallAt (take_phrases shape first_count) (taken_in 0) calls.takes
 

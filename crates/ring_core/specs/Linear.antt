@@ -28,7 +28,7 @@ pub record TimedOperation : Type 0 where
 abbrev pub operations : Side → ℕ → ℕ → List Operation → List TimedOperation
 operations side start stop does = map (λ d. record { side = side; does = d; start = start; stop = stop }) does
 
--- those of a call that has `long` own events from start on, if it has taken effect within the side's first t events; it takes
+-- those of a call that has `long` events of its own from start on, if it has taken effect within the side's first t events; it takes
 -- effect with its event number effect, counted from 1
 abbrev pub call_operations : Side → (start long effect t : ℕ) → List Operation → List TimedOperation
 call_operations side start long effect t ds = (if nat_le (start + effect) t then operations side start (start + long) ds else [])
@@ -56,7 +56,7 @@ take_effect shape c (ItemAfterClose seen again items) =
     suc (events_in (accesses_before_word (ItemAfterClose seen again items) ++ words_read shape c.number items))
 take_effect shape c (Empty seen) = events_in (take_phrase shape c (Empty seen))
 
--- the operations of puts and of the close after them, from own event start on, starting at this count; a close takes effect with
+-- the operations of puts and of the close after them, from the side's event start on, starting at this count; a close takes effect with
 -- its first event
 abbrev pub put_operations : Shape → Count → ℕ → List Put → Bool → ℕ → List TimedOperation
 put_operations shape c start [] false t = []

@@ -13,7 +13,7 @@ use Rattle.ring_core.specs.Takes.{Takes, taken_in, take_program}
 use Rattle.ring_core.specs.Items.{puts_begun, puts_ended, takes_begun, takes_ended}
 use Rattle.ring_core.specs.CallsAt.{IsPartAt, scan_events}
 
--- A scan that a side made from its own event start on, and that returned seen: modulo the modulus, seen is the number of items
+-- A scan that a side made from its own event number start on, and that returned seen: modulo the modulus, seen is the number of items
 -- counted by the first of the other side's calls; not fewer than those of the calls that had ended when the scan began, nor more than
 -- those whose count writes had begun when it ended; and a number from least to most.
 pub record ReadsCount {X : Type 0}

@@ -204,8 +204,8 @@ pub fn ring_law()
 /// Every run of the ring is linearizable: in every lawful history of safe bits whose two sides follow their programs, the
 /// operations of both sides that took effect have one order that keeps each side's own order, that a bounded FIFO queue
 /// with close allows, and in which an operation whose call had ended before another's began comes before it. A put of `m`
-/// items is `m` operations within its call. Of the calls that are cut, a put of items, a take of items and a close count
-/// if their count write, or the write of the close bit, has begun.
+/// items is `m` operations within its call. Among the calls that are cut, a put of items, a take of items and a close
+/// count if their count write, or the write of the close bit, has begun.
 ///
 /// Herlihy and Wing 1990.
 pub fn ring_is_linearizable()

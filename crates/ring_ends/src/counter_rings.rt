@@ -17,7 +17,7 @@ use bits_core::Shape;
 use ring_seats::{Counting, counter_table, first_steppers, join_steppers, meet_steppers};
 use std::alloc::{Allocator, Global};
 
-/// The ring of one producer and one consumer on a machine with atomic words, shared by two threads with no lock
+/// The ring with one producer and one consumer on a machine with atomic words, shared by two threads with no lock
 /// (Lamport 1977).
 ///
 /// Each count, each cell and the close bit has an atomic word of its own. A put is one load, a store of each item's
@@ -62,7 +62,7 @@ impl<A: Allocator> CounterRing<A> {
         self.words().find_word(place)
     }
 
-    /// The two ends of the ring: one puts, the other takes. They have made no call and know the history with no event.
+    /// The two ends of the ring: one puts, the other takes. They have made no call and know only the empty history.
     /// The start is the one that was made with this ring; it is spent, so a ring has one pair of ends. It takes no
     /// memory.
     pub fn ends<'a>(&'a self, start: CounterStart) -> (CounterPutter<'a>, CounterTaker<'a>)

@@ -59,7 +59,7 @@ impl Finished {
 }
 
 impl<A: Allocator> FlickerRing<A> {
-    /// The two ends of the ring: one puts, the other takes. They have made no call and know the history with no event.
+    /// The two ends of the ring: one puts, the other takes. They have made no call and know only the empty history.
     /// The start is the one that was made with this ring; it is spent, so a ring has one pair of ends. Each end has an
     /// oracle, which answers a read whose two loads do not agree. It takes no memory.
     pub fn ends<'a, O1: Oracle + Drop, O2: Oracle + Drop>(

@@ -30,7 +30,7 @@ impl Pad {
     }
 }
 
-/// A ring of one producer and one consumer, of one kind. To a contract a ring is its shape, and which ring it is.
+/// A ring with one producer and one consumer, of one kind. To a contract a ring is its shape, and which ring it is.
 #[derive(Drop)]
 #[repr(C)]
 pub struct RingIn<K: WordKind, A: Allocator> {

@@ -82,7 +82,7 @@ near_refused told =
 abbrev pub TellsNearRefused : HeldFields → ℕ → NearPlayed → Type 0
 TellsNearRefused held letters told = (fault : Played) × TellsRefused held letters fault × (told ≡ near_refused fault)
 
--- there is no near miss of this number
+-- there is no near miss with this number
 abbrev pub no_near_miss : NearPlayed
 no_near_miss = record (near_played 0 0 0 0 0) { outcome = 3 }
 

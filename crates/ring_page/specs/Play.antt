@@ -94,7 +94,7 @@ abbrev pub HasNoRoom : HeldFields → ℕ → Type 0
 HasNoRoom held letters =
     (RUN_ROOM < run_count held.schedule) ⊎ (ANSWER_ROOM < length held.oracle) ⊎ ((script : Content) × IsContentOf held script × (EVENT_ROOM < min letters (length script.letters)))
 
--- the values have this fault, that of any bytes whose fields hold them; or the page has no room
+-- the values have this fault, which is that of all bytes whose fields hold them; or the page has no room
 pub record TellsRefused (held : HeldFields) (letters : ℕ) (told : Played) : Type 0 where
   pub why : ScriptFault
   pub cause : ((why ≡ fault.OutOfMemory) × HasNoRoom held letters) ⊎ ((bytes : List ℕ) → HoldsFields bytes held → IsScriptFault bytes why)

@@ -21,7 +21,7 @@ pub struct AuditTold {
     pub outcome: u64,
     /// The number of the kind of the fault, or of the trace's fault.
     pub number: u64,
-    /// The place of the event at fault, from 0; of a bad line its number, from 1.
+    /// The place of the event at fault, from 0; for a bad line its number, from 1.
     pub place: u64,
     /// The number of the shape's fault, if line 1 makes no shape.
     pub shape_fault: u64,

@@ -48,7 +48,7 @@ pub struct NearPlayed {
     pub modulus: u64,
 }
 
-// The near miss of this number.
+// The near miss with this number.
 fn near_numbered(number: u64) -> Option<NearMiss>
     ensures { result ≡ near_numbered number }
 {
@@ -154,7 +154,7 @@ fn near_refused(fault: ScriptFault) -> NearPlayed
     }
 }
 
-/// Plays the first letters of the script whose fields have these values by the near miss of this number, from 1, in the order of
+/// Plays the first letters of the script whose fields have these values by the near miss with this number, from 1, in the order of
 /// [`NearMiss`]: the marks of the history's events, the starts and ends of calls, and the items taken, as many as there is room for; or
 /// why it is not a script, as [`page_play`](crate::page_play) returns it. It takes no memory.
 #[unsafe(no_mangle)]

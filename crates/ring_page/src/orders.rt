@@ -51,7 +51,7 @@ fn capacity_in(holds: &Holds) -> Capacity
     }
 }
 
-// The word of this number.
+// The word with this number.
 fn word_of(number: u64) -> Option<Word>
     ensures { result ≡ word_of number }
 {

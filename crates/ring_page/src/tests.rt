@@ -191,7 +191,7 @@ fn too_few_slots_are_told(rt: HostRuntime) {
     assert_eq!(rt; (told.outcome, told.programs), (0, UNJUDGED));
 }
 
-// A text that is not a trace, with the number of its fault, its place and that of the shape's fault.
+// A text that is not a trace, with the number of its fault, its place, and the number of the shape's fault.
 type Refusal<'a> = (&'a str, [u64; 3]);
 
 static REFUSALS: [Refusal<'static>; 7] = [

@@ -198,7 +198,7 @@ first_of : (taken items : List ℕ) (n : ℕ) → IsPrefix taken (take n items) 
 first_of taken items n (rest, e) =
     (rest ++ drop n items, sym (append_assoc taken rest (drop n items)) ∙ ap (λ l. l ++ drop n items) e ∙ take-append-drop n items)
 
--- by what both sides know of their results
+-- by what both sides know about their results
 pub taken_first :
     (a b : Played) (ps cs : Content) (pd cd : Option Access) (A B : Stands) (ct : Stands) (n : ℕ) (taken : List ℕ) (kept : PutTally) (told : Bool) (empty : ℕ) → a ≡ b → ps ≡ a.script → cs ≡ a.script →
     IsPlaying P a.history pd (λ list opened. A list opened × B list opened) → IsPlaying C a.history cd ct →
@@ -250,7 +250,7 @@ pub spelled-none : spelled [] ≡ []
 unfolding spelled
 spelled-none = refl
 
--- of the first letters, this many: those of the first runs, and of one more run, if there are enough
+-- this many of the first letters: those of the first runs, and of one more run, if there are enough
 pub take-none : (k : ℕ) → take k (spelled []) ≡ []
 take-none k = ap (λ (l : List Side). take k l) spelled-none ∙ take_all k [] (omega arith)
 

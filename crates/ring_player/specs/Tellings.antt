@@ -61,7 +61,7 @@ pub record RecordsPlay (script : Content) (h : List Event) (told : List (CallEve
   pub tells : TellsCalls script h (call_events script told)
   pub linearizable : IsLinearizable (exactly (capacity_of script.shape)) (call_events script told)
 
--- ---- the stage of a side in its calls, after i own events
+-- ---- the stage of a side in its calls, after i of its own events
 
 -- between two calls; in a put, with one to come; in the close; after it
 abbrev pub IsPutStage : PutStage → Content → Puts → ℕ → Type 0
@@ -91,7 +91,7 @@ abbrev pub told_in : Content → Option (CallEvent ℕ TakenItems) → List call
 told_in script None = []
 told_in script (Some told) = event_of script told ∷ []
 
--- the tally is that of the puts that are over within i own events: the items they stored, and how many of them found the ring full
+-- the tally is that of the puts that are over within i of the side's own events: the items they stored, and how many found the ring full
 abbrev pub IsPutTally : Content → Puts → ℕ → PutTally → Type 0
 IsPutTally script puts i kept =
     (kept.stored ≡ stored_in 0 (puts_over script.shape first_count puts.puts i)) × (kept.full ≡ fulls (puts_over script.shape first_count puts.puts i))
@@ -108,14 +108,14 @@ SaysPut stage items before now next told =
     IsPutStage stage script puts i → IsPutTally script puts i before → IsPutTally script puts (suc i) now →
     (told_in script told ≡ put_told script.shape (offers_of script puts) 0 first_count puts.puts puts.closes i) × IsPutStage next script puts (suc i)
 
--- the tally of the takes that are over within i own events: the items they took, how many of them found the ring empty, and whether
--- one returned Closed
+-- the tally of the takes that are over within i of the consumer's own events: the items they took, how many of them found the ring empty,
+-- and whether one returned Closed
 pub record TakeTally : Type 0 where
   pub taken : ℕ
   pub empty : ℕ
   pub told : Bool
 
--- the takes that are over within i own events have this tally
+-- the takes that are over within i of the consumer's own events have this tally
 abbrev pub IsTakeTally : Content → Takes → ℕ → TakeTally → Type 0
 IsTakeTally script takes i kept =
     (kept.taken ≡ length (all_taken (takes_over script.shape first_count takes.takes i))) ×

@@ -27,9 +27,9 @@ pub struct TakenItems {
     pub count: usize,
 }
 
-/// What an event of a play records of a call: its start, with its first own event, or its end, with its last. The start of a put has how
-/// many items of the script were stored before it: it is offered those that follow, as many as a batch may have. The start of a take has
-/// how many items it asks for, and its end which it took, if any.
+/// What an event of a play records of a call: its start, with the first of its own events, or its end, with the last.
+/// The start of a put has how many items of the script were stored before it: it is offered those that follow, as many
+/// as a batch may have. The start of a take has how many items it asks for, and its end which it took, if any.
 ///
 /// In use: `lamport_ring play --calls`.
 pub type PlayedCall = CallEvent<usize, TakenItems>;

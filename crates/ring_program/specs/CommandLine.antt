@@ -113,8 +113,8 @@ application = with_subcommand (with_subcommand (with_subcommand program_alone au
 abbrev pub is_flag_given : Text → List Row → Bool
 is_flag_given id rows = option_map_or (λ t. bytes_eq t (codes "true")) (first_of id rows) false
 
--- an audit of a trace or of calls is of bits or of calls, and not of both; of bits alone it may be long, and of calls it may stop at the
--- first fault; if it keeps the trace it may report why
+-- an audit of a trace or of calls is of bits or of calls, not of both; one of bits alone may be long, and one of calls may stop at the
+-- first fault; one that keeps the trace may report why
 abbrev pub audit_request : (bits long calls stop why : Bool) → Option Request
 audit_request true true false false false = Some request.LongBits
 audit_request false false true stop false = Some (request.Calls stop)

@@ -1,4 +1,4 @@
--- What is kept while the recording of a run is written: what of the run is not written yet.
+-- What is kept while the recording of a run is written: which part of the run is not written yet.
 use Rattle.std.specs.Prelude.{◌≡◌, [], ◌∷◌, drop}
 use Rattle.queue_calls.specs.Calls.{Event}
 use Rattle.ring_program.specs.RunRecordings.{RunCounts, TellAllBut, stored_with}

@@ -101,7 +101,7 @@ fn kind_words(field: Field) -> &'static str {
     }
 }
 
-// What is wrong in a trace whose line of this number is bad.
+// What is wrong in a trace whose line with this number is bad.
 fn cause_in_trace(bytes: &[u8], number: u64) -> TextCause<'_> {
     if bytes.is_empty() {
         return TextCause::NoTrace;
@@ -120,7 +120,7 @@ fn cause_in_trace(bytes: &[u8], number: u64) -> TextCause<'_> {
     TextCause::Line(number, fault, Shown { line: line.text })
 }
 
-// What is wrong in recorded calls whose line of this number is bad.
+// What is wrong in recorded calls whose line with this number is bad.
 fn cause_in_calls(line: TextLine<'_>, number: u64) -> TextCause<'_> {
     if number == 1 {
         if line.text.is_empty() && !line.has_feed {
@@ -140,7 +140,7 @@ fn cause_in_calls(line: TextLine<'_>, number: u64) -> TextCause<'_> {
     TextCause::Line(number, fault, Shown { line: line.text })
 }
 
-// What is wrong in a recorded register whose line of this number is bad.
+// What is wrong in a recorded register whose line with this number is bad.
 fn cause_in_register(line: TextLine<'_>, number: u64) -> TextCause<'_> {
     if number == 1 {
         if line.text.is_empty() && !line.has_feed {
@@ -200,7 +200,7 @@ fn cause_in_script<'a>(json: Global, bytes: &'a [u8], fault: ScriptFault) -> Opt
     }
 }
 
-/// What is known of a refused text.
+/// What is known about a refused text.
 #[derive(Clone, Copy)]
 pub(crate) enum Source<'a> {
     /// All of it.

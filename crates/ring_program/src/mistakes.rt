@@ -98,14 +98,14 @@ fn asks_two_plays(words: &[&str]) -> bool {
     names(words, "play") && gives(words, "--trace") && gives(words, "--calls")
 }
 
-// The words ask why, and keep no trace.
+// The words ask why, in an audit that keeps no trace.
 fn asks_why_of_pieces(words: &[&str]) -> bool {
     names(words, "audit")
         && gives(words, "--why")
         && (gives(words, "--long") || gives(words, "--calls"))
 }
 
-// The words ask to stop at the first fault, and not of recorded calls or of a recorded register.
+// The words ask to stop at the first fault, but not for recorded calls or a recorded register.
 fn asks_stop_alone(words: &[&str]) -> bool {
     names(words, "audit")
         && gives(words, "--stop")

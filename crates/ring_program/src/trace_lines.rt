@@ -104,7 +104,7 @@ fn shown_front(line: &[u8]) -> &[u8] {
     line
 }
 
-// The bytes from the line of this number on, counted from 1. None if there are fewer lines.
+// The bytes from the line with this number on, counted from 1. None if there are fewer lines.
 fn from_line(bytes: &[u8], number: u64) -> &[u8] {
     let mut rest = bytes;
     for _ in 1..number {
@@ -116,7 +116,7 @@ fn from_line(bytes: &[u8], number: u64) -> &[u8] {
     rest
 }
 
-/// The line of this number, counted from 1. It is empty and has no line feed if there are fewer lines.
+/// The line with this number, counted from 1. It is empty and has no line feed if there are fewer lines.
 pub fn line_at(bytes: &[u8], number: u64) -> TextLine<'_> {
     let rest = from_line(bytes, number);
     match rest.iter().position(|byte| *byte == b'\n') {

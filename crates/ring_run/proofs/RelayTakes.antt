@@ -84,7 +84,7 @@ asked_more shape k left (y ∷ xs) x are is =
 
 -- ---- one more take, by its reply
 
--- the reply to a take, and the take: if it took some, the reply has how many, at least one
+-- the reply to a take, and the take: if it took some, the reply says how many, at least one
 empty_told : (x : Take) (y : replies.TakeBatchReply) → Some y ≡ take_batch_reply (Some (take_reply_to x)) (taken_of x) → empty_of x ≡ empty_one y
 unfolding empty_of empty_one
 empty_told (takes.Item seen []) y is = let e : y ≡ reply.Taken 0 = cc in sym (ap empty_one e)

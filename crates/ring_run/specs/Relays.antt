@@ -78,7 +78,7 @@ pub record EndsEmpty (shape : Shape) (list : List Event) : Type 0 where
   pub seen : ℕ
   pub list_is : HasTakes shape list (and_take before (Empty seen))
 
--- The items taken and the takes that brought none are at most as many as the limit, so the takes are. If none returned Closed, they are
+-- The items taken and the takes that brought none are at most as many as the limit, and so are the takes. If none returned Closed, they are
 -- as many, or the last take found the ring empty.
 pub record HasRelayedTakes (shape : Shape) (list : List Event) (limit : ℕ) (taken : List ℕ) (made empty : ℕ) (closed : Bool) : Type 0 where
   pub takes : TakesAre shape list limit taken made empty closed

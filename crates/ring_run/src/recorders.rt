@@ -240,7 +240,7 @@ impl RecordedLines<'_> {
         Ok(self.line(word, numbers))
     }
 
-    // The line of this word, whose numbers are dropped if it has none, as when a put stored all that it offered.
+    // The line with this word, whose numbers are dropped if it has none, as when a put stored all that it offered.
     fn line<A: Allocator>(&mut self, word: Word, numbers: &mut Vec<u64, A>) -> Option<Word>
         ensures { IfSome result (λ word. IsFurther (line word numbers.new.items)) }
     {

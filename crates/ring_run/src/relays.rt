@@ -138,7 +138,7 @@ fn take_one<E: TakeEnd>(taker: &mut E, place: &mut u64) -> TakeBatchReply
     }
 }
 
-// Takes into these places; into one by a take of one, which is cheaper.
+// Takes into these places; a single one is filled by a take of one, which is cheaper.
 #[inline(always)]
 fn take_into<E: TakeEnd>(taker: &mut E, into: &mut [u64]) -> TakeBatchReply
     requires idle { E.idle taker.old }
@@ -265,7 +265,7 @@ fn room_for<A: Allocator>(alloc: A, items: &[u64], limits: Limits) -> Result<Vec
     Ok(taken)
 }
 
-// The side that puts: lets the other one see that it begins, and that it is over.
+// The side that puts: lets the other one see when it begins and when it has finished.
 fn work_putter<E: PutEnd, G: Gate>(
     putter: &mut E,
     items: &[u64],
@@ -378,10 +378,11 @@ fn relay_into<R: Threads, A: Allocator, E: PutEnd + Send, F: TakeEnd + Send, G: 
 /// the start and the end of each put, of each take and of the close, from the thread that makes it; and after each put that found
 /// the ring full, and each take that found it empty, how many have in a row.
 ///
-/// A side that is over ends the other one: a put that found the ring full, or a take that found it empty, is the last if it began
-/// after the first side was over, as nothing can change for the next. The same applies if the first side has not begun while the
-/// other's calls were in vain 16,777,216 times in a row, as when no second thread can be started. If no take returned Closed, and
-/// neither side has used up its limit, one of them had not begun when the other ended. No progress is guaranteed.
+/// A side that has finished ends the other: a put that found the ring full, or a take that found it empty, is the last
+/// if it began after the first side had finished, as nothing can change for the next. The same applies if the first
+/// side has not begun while the other's calls were in vain 16,777,216 times in a row, as when no second thread can be
+/// started. If no take returned Closed, and neither side has used up its limit, one of them had not begun when the
+/// other ended. No progress is guaranteed.
 ///
 /// The ends have made no call yet, and every item has to fit the width. It takes memory for the items that are taken:
 /// before any call it makes room for as many as there are items, or takes by the limit if these are fewer.

@@ -3,7 +3,7 @@ ghost use Rattle.std.specs.Prelude.{◌≡◌, ◌+◌, ◌<◌, ◌^◌, ◌-�
 
 use std::sync::atomic::{AtomicU64, Ordering};
 
-// A side that has not begun, is running, or is over.
+// A side that has not begun, is running, or has finished.
 const BEFORE: u64 = 0;
 
 const AT_WORK: u64 = 1;
@@ -32,7 +32,7 @@ impl Stage {
         self.at.store(AT_WORK, Ordering::SeqCst);
     }
 
-    /// The side is over: it makes no more calls.
+    /// The side has finished: it makes no more calls.
     pub fn end(&self) {
         self.at.store(OVER, Ordering::SeqCst);
     }

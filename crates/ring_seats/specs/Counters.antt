@@ -68,7 +68,7 @@ pub record AreLast (x : Side) (row : ℕ → Bit) (made : List Event → List Ma
 abbrev pub IsLastCount : Side → List Event → ℕ → Type 0
 IsLastCount x list v = AreLast x (row_bit x) (λ before. unary_over x before v) list ⊎ (NoWriteOf (row_bit x) list × (v ≡ 0))
 
--- the item is the one last written to the cell in the producer's list, or 0 before any
+-- the item is the one last written to the cell in the producer's list, or 0 if there is none
 abbrev pub IsLastItem : ℕ → ℕ → List Event → ℕ → Type 0
 IsLastItem width j list item = AreLast P (Cell j) (λ before. word_write width j item) list ⊎ (NoWriteOf (Cell j) list × (item ≡ 0))
 

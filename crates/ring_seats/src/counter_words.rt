@@ -35,7 +35,7 @@ impl Keeping for Counting {
 }
 
 impl<'a> Words<'a, Counting> {
-    /// Loads a word, by no end; the place is below the capacity + 3. It is that of a state that satisfies the ring's rule.
+    /// Loads a word, for neither end; the place is below the capacity + 3. It is that of a state that satisfies the ring's rule.
     pub fn find_word(&self, place: usize) -> u64
         requires { place < words_of self.now.shape }
         ensures { IsWordFound (KeptWords self.now.shape) place result }

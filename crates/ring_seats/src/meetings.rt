@@ -13,8 +13,8 @@ use atomic_table::Seat;
 use bits_core::Side;
 
 /// The two seats of a ring, of any kind, from the seat that was made with its table: one steps for the producer, the other
-/// for the consumer. They have made no step and know the history with no event. For example, the two ends of a new ring step
-/// with these.
+/// for the consumer. They have made no step and know only the empty history. For example, the two ends of a new ring
+/// step with these.
 pub fn first_steppers<'a, K: Keeping>(
     ring: Words<'a, K>,
     mut seat: Seat<(), View>,

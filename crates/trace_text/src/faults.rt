@@ -13,7 +13,7 @@ use std::fmt;
 pub enum TraceFault {
     /// The numbers of line 1 make no shape.
     BadShape(ShapeFault),
-    /// This line, counted from 1, is missing or unfinished, or not of the format, or names a bit
+    /// This line, counted from 1, is missing or unfinished, or not in the format, or names a bit
     /// that is not in the shape.
     BadLine(u64),
     /// More events come than a trace may have.

@@ -187,9 +187,9 @@ impl TraceAudit {
 
     /// Reads the next piece of the text.
     ///
-    /// `BadShape` if the numbers of line 1 make no shape; `BadLine` at the first line that is not of the format or names a
-    /// bit that is not in the shape, whatever follows, and even if the history has a fault before it; `TooLong` after 2^64 -
-    /// 1 lines; never `OutOfMemory`. An audit that has returned one of these is of no further use.
+    /// `BadShape` if the numbers of line 1 make no shape; `BadLine` at the first line that is not in the format or
+    /// names a bit that is not in the shape, whatever follows, and even if the history has a fault before it; `TooLong`
+    /// after 2^64 - 1 lines; never `OutOfMemory`. An audit that has returned one of these is of no further use.
     pub fn read(&mut self, piece: &[u8]) -> Result<(), TraceFault>
         ensures read { OnOk result ((bytes : List ℕ) → HasReadTrace self.old bytes →
             HasReadTrace self.new (bytes ++ piece.now)) }

@@ -41,7 +41,7 @@ fn value_word(act: Act) -> &'static str
     }
 }
 
-// A text, with out of memory as a fault of the trace's text.
+// Appends a word to a text; running out of memory is a fault of the trace's text.
 fn push_text<A: Allocator>(text: &mut String<A>, word: &str) -> Result<(), TraceFault>
     ensures ok { OnOk result (string_bytes text.new ≡ string_bytes text.old ++ word.now) }
     ensures err { IfErr result (λ e. e ≡ TraceFault.OutOfMemory) }

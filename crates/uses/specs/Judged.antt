@@ -7,7 +7,7 @@ use Rattle.queue_calls.specs.Recordings.{IsRecording, StopsAt}
 use Rattle.queue_calls.specs.declared.faults.Fault.{Fault}
 use Rattle.queue_calls.specs.declared.faults.Fault.TheVariants.{OutOfMemory}
 
--- the history is linearizable, or the event of this number, from 0, is the first one at which it is not
+-- the history is linearizable, or the event with this number, from 0, is the first one at which it is not
 abbrev pub JudgesCalls : Capacity → List Event → Option ℕ → Type 0
 JudgesCalls capacity events None = IsLinearizable capacity events
 JudgesCalls capacity events (Some number) =

@@ -36,7 +36,7 @@ few_taken (Waits wanted before ended) Resting q f = absurd f
 few_taken (Waits wanted before ended) (Taking lacked took left) q f = omega (arith, f.0)
 few_taken (Waits wanted before ended) FoundClosed q f = omega arith
 
--- the end of a put that stored this many items, and found no room for as many as `lack` says for those left
+-- the end of a put that stored this many items and, with n left, found that the queue lacked room for `lack n`
 record Ends (e : Event) (done : ℕ) (lack : ℕ → ℕ) : Type 0 where
   ends : (p p' : Producer) → ProducerStep p (Happens e) p' → (left : List ℕ) × (p ≡ Putting (lack (length left)) done left) × (p' ≡ Idle)
   idle : (c c' : Consumer) → ConsumerStep c (Happens e) c' → c' ≡ c

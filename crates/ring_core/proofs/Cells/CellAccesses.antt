@@ -290,7 +290,7 @@ none-end (Closed seen again) = none-twice seen again
 
 -- ---- places
 
--- an own event is no later than a later one
+-- one of a side's own events is at no later a place than a later one
 in_order : (s : Side) (h : List Event) (i e a b : ℕ) → i ≤ e → IsPlaceOf s h i a → IsPlaceOf s h e b → a ≤ b
 in_order s h i e a b l p q = elim (at_most_or_above a b) [ inl m ↦ m | inr m ↦ absurd (omega (arith, clock_rises s h (suc b) a m, p.before, q.past, l)) ]
 

@@ -16,7 +16,7 @@ use Rattle.ring_core.specs.RingLaw.{IsInterval}
 use Rattle.ring_core.proofs.OverSpans.CallSpans.{put_seen, put_items}
 
 -- Item number j is one of those of a call whose own events end before stop: the digits of the item's word are accessed from the side's
--- own event word on, after what the call accesses before its words.
+-- own event number word on, after what the call accesses before its words.
 pub record HasItem {X : Type 0} (IsAt : X → (n start stop : ℕ) → Type 0) (front : X → List Made) (items : X → List ℕ) (width j item word stop : ℕ) : Type 0 where
   pub call : X
   pub n : ℕ

@@ -27,7 +27,7 @@ use Rattle.ring_core.proofs.Linear.PutTurns.{if_yes, if_no, in_append, in_if, be
 use Rattle.bits_core.proofs.LawLemmas.{subhistory_has_place}
 use Rattle.bits_core.proofs.OwnEvents.{by_case}
 
--- the place of own event i is the last one with a clock of at most i
+-- the place of the side's own event i is the last one with a clock of at most i
 pub last_place : (s : Side) (h : List Event) (i place t : ℕ) → IsPlaceOf s h i place → clock s h t ≤ i → t ≤ place
 last_place s h i place t q l = elim (at_most_or_above t place) [
   | inl m ↦ m

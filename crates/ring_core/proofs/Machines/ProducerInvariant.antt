@@ -50,7 +50,7 @@ scan_keeps p s answer is e one fed open_still =
     (subst (λ st. ProducerIsAt st (record p { stage = st; scan = s })) (sym e)
     (counted, same_putting p Scanning s p.word p.row p.most putting refl refl refl, fresh, start, scanning p.shape P p.scan s answer scans one' fed open_still))
 
--- what is known of the scan of a put once it has a value: it is one of the consumer's count
+-- what is known about the scan of a put once it has a value: it is one of the consumer's count
 pub record HasGiven (p : ProducerState) (s : ScanState) (answer : Bool) (seen : ℕ) : Type 0 where
   pub stage_is : p.stage ≡ Scanning
   pub fresh : p.word.written ≡ 0

@@ -60,7 +60,7 @@ place_unique p h i t u a b = elim (at_most_or_above t u) [
   ]
 ]
 
--- What is known of the number that the scan of span x has read, once it has ended: the positions of its two ends, and the
+-- What is known about the number that the scan of span x has read, once it has ended: the positions of its two ends, and the
 -- counts of both sides there.
 record Read (modulus : ℕ) (own other : ℕ → ℕ) (scans writes : List Span) (t s n : ℕ) (x : Span) : Type 0 where
   pub first : ℕ
@@ -79,7 +79,7 @@ record Read (modulus : ℕ) (own other : ℕ → ℕ) (scans writes : List Span)
   pub write : ℕ
   pub tallies : number ≡ tally (sizes writes) write
 
--- this is known of each scan that has ended
+-- this is known about each scan that has ended
 read_of :
     (modulus : ℕ) (own other : ℕ → ℕ) → Clock own → Clock other → (most most' : ℕ) (scans writes : List Span) → AllProper most scans → AllProper most' writes →
     AreRegular modulus own other scans writes →

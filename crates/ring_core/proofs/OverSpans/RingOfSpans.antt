@@ -42,7 +42,7 @@ pub record ReadsCount (modulus : ℕ) (subhistory other : ℕ → ℕ) (writes :
   pub not_older : (first : ℕ) → IsPlace subhistory s first → counts_ended writes (other first) ≤ number
   pub not_newer : (last : ℕ) → IsPlace subhistory (s + (x.scan - 1)) last → number ≤ counts_begun writes (other last)
 
--- word access number i of a look, from its first start to its last end, for a look at own event s
+-- word access number i of a look, from its first start to its last end, for a look at its side's own event s
 abbrev pub IsWordAccess : Side → Shape → List Event → ℕ → Span → ℕ → ℕ → ℕ → Type 0
 IsWordAccess side shape h s x i start stop =
     IsInterval side h (s + x.scan + 2 * (i * width_of shape)) (s + x.scan + 2 * (suc i * width_of shape) - 1) start stop

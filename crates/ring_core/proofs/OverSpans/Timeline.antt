@@ -128,7 +128,7 @@ begun_at most (y ∷ ys) h s n x (inl st) j l =
 begun_at most (y ∷ ys) h s n x (inr st) j l =
     omega (arith, begun_past most y ys (s + j) (st.0 + j) h.0 (omega (arith, st.2)), begun_at most ys h.1 st.0 st.1 x st.4 j l, st.3)
 
--- up to its end ended writes have counted as many items as its number
+-- up to its end, the writes that have ended counted as many items as its number
 pub ended_at :
     (most : ℕ) (xs : List Span) → AllProper most xs → (s n : ℕ) (x : Span) → IsSpanAt xs s n x → (j : ℕ) → j < whole x → counts_ended xs (s + j) ≡ n
 ended_at most [] h s n x st j l = elim st [ ]

@@ -31,7 +31,7 @@ before_close shape puts = events_in (put_phrases shape first_count puts.puts)
 
 -- ---- the producer
 
--- after p own events it is in no call; these items were stored
+-- after p of its own events it is in no call; these items were stored
 pub record PutIdle (shape : Shape) (offers : ℕ → List ℕ) (puts : Puts) (p : ℕ) (stored left : List ℕ) (put : PutTurn) : Type 0 where
   pub count : Count
   pub rest : List Put
@@ -59,7 +59,7 @@ pub record PutRuns (shape : Shape) (offers : ℕ → List ℕ) (h : List Event) 
   pub begun : start < p
   pub not_ended : p < start + put_long shape count call
 
--- it is past all puts, with this many own events of its close
+-- it is past all puts, with this many of its own events in its close
 pub record PastPuts (shape : Shape) (offers : ℕ → List ℕ) (puts : Puts) (p made : ℕ) (stored left : List ℕ) : Type 0 where
   pub count : Count
   pub start : ℕ
@@ -172,14 +172,14 @@ put_view shape offers h puts p stored left put (inr (inr (inr r))) =
 
 -- ---- the consumer
 
--- after q own events it is in no call; these items were taken
+-- after q of its own events it is in no call; these items were taken
 pub record TakeIdle (shape : Shape) (wants : ℕ → ℕ) (takes : Takes) (q : ℕ) (taken : List ℕ) (take : TakeTurn) : Type 0 where
   pub count : Count
   pub rest : List Take
   pub behind : TakesBehind shape wants takes count q taken rest
   pub take_is : take ≡ Rests
 
--- it is in a call that began after this many own events and that these takes follow
+-- it is in a call that began after this many of its own events and that these takes follow
 pub record InCall (shape : Shape) (wants : ℕ → ℕ) (takes : Takes) (left : List Take) (taken : List ℕ) (take : TakeTurn) : Type 0 where
   pub count : Count
   pub start : ℕ

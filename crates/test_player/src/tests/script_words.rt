@@ -51,7 +51,7 @@ static SHAPE_WORDS: [(ShapeFault, &str); 4] = [
     (ShapeFault::Batch, "batch must be from 1 to capacity"),
 ];
 
-/// A fault of this number has the expected number and text.
+/// A fault with this number has the expected number and text.
 pub fn expect_words(
     rt: &(impl Abort + AllocGlobal),
     fault: &impl Display,

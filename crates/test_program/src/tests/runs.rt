@@ -45,7 +45,7 @@ static RUNS: [(&str, u8, &str, &str); 13] = [
         "put 1\ntaken 0\nclosed no\n",
         LIMIT,
     ),
-    // the taker is over, so the putter ends, with more calls allowed than a test makes
+    // the taker has finished, so the putter ends, with more calls allowed than a test makes
     (
         "--count 2 --limit 18446744073709551615 --takes 0",
         1,

@@ -46,7 +46,7 @@ pub fn expect_in_order<A: Allocator>(rt: &impl Abort, outcome: &Outcome<A>, item
     assert!(rt; !outcome.closed || taken.len() == items.len());
 }
 
-/// The shape of these numbers. (A `?` is expensive to prove, so what fails only if memory or a shape is lacking ends the test.)
+/// The shape with these numbers. (A `?` is expensive to prove, so what fails only if memory or a shape is lacking ends the test.)
 pub fn shape_of(rt: &impl Abort, numbers: &Numbers) -> Shape {
     let [capacity, modulus, width, batch] = *numbers;
     Shape::with_batch(capacity, modulus, width, batch).expect(rt, "a shape")

@@ -142,8 +142,8 @@ fn a_taker_that_is_held_leaves_the_ring_full(rt: HostRuntime) {
     }
 }
 
-// Once the first put is stored, all others find the ring full, if nothing is taken; the taker is over at once, so the putter may end
-// before its limit. With no such limit the whole relay ends.
+// Once the first put is stored, all others find the ring full, if nothing is taken; the taker finishes at once, so the
+// putter may end before its limit. With no such limit the whole relay ends.
 fn expect_unchanged<G: Gate + Sync>(
     rt: &(impl Abort + AllocGlobal + Threads),
     kind: Kind,
@@ -329,7 +329,7 @@ impl Row {
     }
 }
 
-// For both sides wait is called after each such call, once, and after no other.
+// For both sides `wait` is called once after each such call, and after no other.
 #[derive(Drop)]
 struct Telling {
     putter: Row,

@@ -87,7 +87,7 @@ fn expect_one_limited(
     outcome
 }
 
-// A side that is over ends the other one, even if that may make more calls than a test can.
+// A side that has finished ends the other, even if that may make more calls than a test can.
 #[test]
 fn a_side_that_is_over_ends_the_other(rt: HostRuntime) {
     for kind in KINDS {
