@@ -9,7 +9,7 @@ const TICK = 100; // milliseconds between words on what is under way
 const MOST_WORDS = 500; // characters of what is thrown
 const MOST_LINES = 20; // of a stack
 
-// What a text has: the language, and its two accesses.
+// What a text may use: the language, and its two accesses.
 const LANGUAGE = new Set(`Object Function Array Number parseFloat parseInt Infinity NaN undefined Boolean String Symbol Date Promise RegExp
   Error AggregateError EvalError RangeError ReferenceError SyntaxError TypeError URIError globalThis JSON Math Intl ArrayBuffer Atomics
   SharedArrayBuffer Uint8Array Int8Array Uint16Array Int16Array Uint32Array Int32Array Float32Array Float64Array Uint8ClampedArray
@@ -18,7 +18,7 @@ const LANGUAGE = new Set(`Object Function Array Number parseFloat parseInt Infin
 
 const post = globalThis.postMessage.bind(globalThis), {stringify} = JSON, now = performance.now.bind(performance);
 
-// (Not all can be taken: no name is kept that is not in the list, but for those that the browser lets nobody take.)
+// (Not all can be removed: no name is kept that is not in the list, except those that the browser lets nobody remove.)
 for (let it = globalThis; it && it !== Object.prototype; it = Object.getPrototypeOf(it))
   for (const name of Object.getOwnPropertyNames(it)) if (!LANGUAGE.has(name)) Reflect.deleteProperty(it, name);
 

@@ -78,7 +78,7 @@ async function start() {
   }
   const {state} = page;
   addEventListener("hashchange", page.follow);
-  // A text that no link holds is lost with the page. (Chromium asks nobody who has not touched the page, and complains of that.)
+  // A text that no link holds is lost with the page. (Chromium asks nobody who has not touched the page, and complains about that.)
   addEventListener("beforeunload", event => {
     if (navigator.userActivation?.hasBeenActive !== false && !state.example && state.text.length > MOST_LINKED) event.preventDefault();
   });

@@ -1,5 +1,5 @@
-// The page: its state, what follows from it, and the texts that are put into it. What shows it are the panes, of which each renders the
-// state and the moment.
+// The page: its state, what follows from it, and the texts that are put into it. The panes show it: each renders the state
+// and the moment.
 
 import { addressWriter, askedBy, linkTo } from "./core/address.js";
 import { exampleText } from "./core/files.js";
@@ -80,8 +80,8 @@ export function pageOf({examples, views, asker, module, labAsker}) {
 
   // ---- texts ---------------------------------------------------------------------------------------------------------------
 
-  // Puts a text into the editor, that of an example or another's, with what of the state goes with it; Back brings back what was there, but
-  // for a text of a link. A step of the course begins folded.
+  // Puts a text into the editor, that of an example or another one, with the part of the state that goes with it; Back restores what was
+  // there, except for a text from a link. A step of the course begins folded.
   function open(mode, given, isNew = true) {
     const {goal, isWelcome, left, course} = state, lesson = given.example ?? "";
     const {text, example, file, shown, missed, bound, isTrusted, exercise} = state;

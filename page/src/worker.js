@@ -1,5 +1,5 @@
-// In a worker, with an instance of the module of its own: what takes longer than a step of the page may. The page gives the bytes of the
-// module, and a text, and asks by numbers; each answer has the number of its question.
+// Runs in a worker, with its own instance of the module: what needs more time than a step of the page may take. The page gives the bytes
+// of the module, and a text, and asks by numbers; each answer has the number of its question.
 
 import { openModule } from "./core/module.js";
 import { recordingFound } from "./model/recording.js";

@@ -42,7 +42,7 @@ export function linkTo(state, shown, opens) {
 
 // What a link asks for: fields of the state; with `named`, {mode, name}, an example; with `text` and `mode`, a text; with `step`, a step of
 // the course; a text that is not the step's own stays in that step, as its `course`; with `exercise`, the file of a teacher's, and the
-// `text` of a construction for it, if it is another one. `note` says what of it there is not. `has` says
+// `text` of a construction for it, if it is another one. `note` says what part of it does not exist. `has` says
 // whether there is an example {mode, name}, a step, a goal, and whether an example is that of a step.
 export function askedBy(hash, has) {
   const parts = new URLSearchParams(hash.slice(1)), number = /^\d+$/.test(parts.get("shown") ?? "") ? Number(parts.get("shown")) : null;

@@ -1,5 +1,5 @@
-// Asks a worker of the page's own (worker.js) about the recording that is shown. It is made of a text, since a file that is opened from the
-// disk may read no other.
+// Asks a worker of the page's own (worker.js) about the recording that is shown. It is made from a text, since a page opened from disk
+// may read no other file.
 
 const IDLE = 30000; // milliseconds without a question, until the worker's memory is given back
 

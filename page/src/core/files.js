@@ -1,4 +1,4 @@
-// The files of the page: the page in one file has them in itself, and one that a server sends asks for them.
+// The files of the page: the single-file page contains them, and one that a server sends fetches them.
 
 async function fetched(name) {
   const answer = await fetch(`made/${name}`);
@@ -8,7 +8,7 @@ async function fetched(name) {
 
 export const textOf = async name => globalThis.ringTexts?.[name] ?? (await fetched(name)).text();
 
-// The text of the script of a worker. In the page in one file all scripts are one, whose last line says which of them begins.
+// The text of the script of a worker. In the single-file page all scripts are one, whose last line says which of them starts.
 export async function workerText(name) {
   const all = document.getElementById("script")?.textContent;
   return all ? all.replace(/\buse\("main\.js"\);\s*$/, `use("${name}");\n`) : textOf(`${name}.joined`);

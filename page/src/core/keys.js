@@ -11,7 +11,7 @@ const OWN = [
   ["input[type=checkbox]", / /]
 ];
 
-// A closed list opens, for which the browser would choose what comes next in it; once something is chosen its keys are the page's again.
+// Opens a closed list, in which the browser would choose the next item; once something is chosen, its keys are the page's again.
 function listenToLists() {
   for (const list of document.querySelectorAll("select")) {
     list.addEventListener("change", () => list.blur());

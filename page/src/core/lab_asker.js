@@ -1,10 +1,10 @@
-// Explores the text of a construction in a worker that is made of the lab's script and that text, and ends with it. Nothing of what the
+// Explores the text of a construction in a worker that is made of the lab's script and that text, and ends with it. Nothing that the
 // worker posts is taken for more than data.
 
 const MORE = 3000; // milliseconds beyond those of a search, until a worker that does not answer is stopped
 const MOST_WORDS = 600; // characters of what is said to be wrong
 
-// (Firefox reports a script that it cannot read without a word on it.)
+// (If Firefox cannot read a script, it reports that without a word about why.)
 const NO_PLACE = "the text has a syntax error; this browser does not say in which line, Chromium does";
 
 const isList = it => Array.isArray(it);
@@ -16,7 +16,7 @@ function scriptWith(script, text, bounds) {
   return {whole: `${before}${text.replace(/[;\s]*$/, "")}\n));\n`, lines: linesIn(before) - 1};
 }
 
-// An asker over the lab's script. `explore` passes what comes of a text to `then`, as {found, met}, {wrong, line}, {late} or {none} (the
+// An asker over the lab's script. `explore` passes the outcome for a text to `then`, as {found, met}, {wrong, line}, {late} or {none} (the
 // browser lets no worker run), and the number of states so far to `meanwhile`. Another search, or `stop`, ends the one under way.
 export function labAskerOf(script) {
   let worker = null, timer = 0;

@@ -15,8 +15,8 @@ const MOST_TAKEN = 65536; // items taken that the audit of recorded calls keeps
 const MOST_OFFERED = 65536; // items inside that it has room for, before more is tried
 const NO_ROOM = 3; // its word for a text that needs more
 const BEGINNING = 3; // the first three of them begin a call
-// How many spaces there are in a text, in one line at most, and how many bytes after its last line feed: of numbers in recorded calls
-// there are no more. (By an index, as there may be tens of millions of bytes; `for .. of` takes several times as long.)
+// How many spaces there are in a text, in one line at most, and how many bytes after its last line feed: recorded calls have no more
+// numbers than that. (By an index, as there may be tens of millions of bytes; `for .. of` takes several times as long.)
 function spacesIn(bytes) {
   const {length} = bytes;
   let all = 0, most = 0, here = 0;
@@ -42,7 +42,7 @@ export function orStopped(call) {
   }
 }
 
-// Compiles the module. The answer has `audit`, `moments`, `play`, `playNear`, `calls`, `order` and `register`.
+// Compiles the module. The result has `audit`, `moments`, `play`, `playNear`, `calls`, `order` and `register`.
 export async function openModule(bytes) {
   const compiled = await WebAssembly.compile(bytes);
   let exports = (await WebAssembly.instantiate(compiled)).exports;
@@ -120,7 +120,7 @@ export async function openModule(bytes) {
     return {words: `fault: line ${place + 2}: ${kind}`, kind, why: WHYS[number] ?? "", place, since, shape, events, programs};
   };
 
-  // What the audit of programs reports of the first events of a trace: of none, one, two and so on up to `most`; and the items put and
+  // What the audit of programs reports about the first events of a trace: of none, one, two and so on up to `most`; and the items put and
   // taken by the last of these, in decimal.
   const moments = (text, most) => {
     const bytes = new TextEncoder().encode(text), slots = most + 64;

@@ -16,7 +16,7 @@ function readAt(numbers, at) {
   return isThere ? {reader: Number(reader) + 1, line: lineAt(ended), value: String(value), written: lineAt(written)} : null;
 }
 
-// The earlier reads that speak against one, in words.
+// The earlier reads that contradict one, in words.
 function readsWords([first, ...others], isCut) {
   if (!first) return ", but an earlier read gave a later value";
   const {reader, line, value, written} = first;
@@ -46,9 +46,9 @@ function missAt(numbers, at, name) {
 const SAME_AS = {safe: [], regular: ["safe"], "atomic by reader": ["regular", "atomic"], atomic: ["regular"]};
 
 // What is found about a recorded register: {refused, line}, or {words, class, line, isCut, misses, report}. `class` is the strongest one,
-// or null if it has none or an event is out of turn, on this `line`; else the line is 0. `misses` has the classes that are missed and that
-// the program prints, from the weakest on: {class, line, reader, value, since, reads, words}, with the line that ends the read at fault,
-// since which line the register held another value, or 0, and the earlier reads that speak against it, {reader, line, value, written}.
+// or null if it has none or an event is out of turn, on this `line`; otherwise the line is 0. `misses` has the classes that are missed and
+// that the program prints, from the weakest on: {class, line, reader, value, since, reads, words}, with the line that ends the read at
+// fault, since which line the register held another value, or 0, and the earlier reads that contradict it, {reader, line, value, written}.
 export function registerFinding(numbers) {
   const [outcome, number, line, best, cut, writes, reads, overlapped, bySeveral, couldInvert] = numbers;
   if (outcome === 2n) return {refused: REFUSALS[Number(number)](line), line: Number(line)};

@@ -59,9 +59,9 @@ export function eventAt(list, at) {
   };
 }
 
-// What the audit of programs reports. Of a history of the programs (`isRun`): how many items were put and taken, whether a take returned
-// Closed, and whether a close, and a scan of the consumer, may begin next; else the place where it leaves them, the kind of the fault, and
-// which events of that side were due.
+// What the audit of programs reports. For a history of the programs (`isRun`): how many items were put and taken, whether a take returned
+// Closed, and whether a close, and a scan of the consumer, may begin next; otherwise the place where it leaves them, the kind of the fault,
+// and which events of that side were due.
 export function programsOf([outcome, number, place, put, taken, told, mayClose, mayScan, ...dues]) {
   const due = [0, 6, 12].map(at => dues.slice(at, at + 6)).filter(([isDue]) => isDue === 1)
     .map(([, row, index, digit, act, value]) => eventAt([0, row, index, digit, act, value, 0, 0, 0], 0));
@@ -78,7 +78,7 @@ export function programsOf([outcome, number, place, put, taken, told, mayClose, 
   };
 }
 
-// The text of a trace, as docs/FORMATS.md has it.
+// The text of a trace, as docs/FORMATS.md describes it.
 export function traceOf({capacity, modulus, width, batch, take_batch}, events) {
   const shape = ["shape", capacity, modulus, width, ...(take_batch > 1 ? [batch, take_batch] : batch > 1 ? [batch] : [])].join(" ");
   const lines = events.map(it => [it.side, it.act, it.bit, ...(it.value === undefined ? [] : [it.value])].join(" "));

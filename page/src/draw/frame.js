@@ -6,7 +6,7 @@ const standings = new WeakMap(); // of a frame what was put there last: {svg, li
 
 const parsed = text => document.adoptNode(new DOMParser().parseFromString(text, "image/svg+xml").documentElement);
 
-// Makes the elements of a picture, one of each of its lines, those of other `lines`; the answer is a picture with this head and what is
+// Makes the elements of a picture, one of each of its lines, those of other `lines`; the result is a picture with this head and what is
 // new.
 function renew({svg, lines: old}, head, lines) {
   const wanted = new Set(lines), children = [...svg.children], gone = [], fresh = [], places = [];

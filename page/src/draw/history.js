@@ -1,5 +1,5 @@
-// The picture of a register's history: its operations, each from the place that begins it to the one that ends it, as bars; of a
-// construction as braces over its accesses, with what the registers hold that it is built of. It places rectangles: the module says what
+// The picture of a register's history: its operations, each from the place that begins it to the one that ends it, as bars; for a
+// construction, as braces over its accesses, with what the registers hold that it is built from. It places rectangles: the module says what
 // is at fault, and what contradicts it.
 
 import { LETTER, accessPath, barPath, barWords } from "./bar.js";

@@ -50,7 +50,7 @@ export function waveOf(first, events, accesses, count, past) {
 
 const MOST_WAVES = 5;
 
-// The first events of the bits whose waves are drawn, and of how many these are. "some": those of overlapped reads and of
+// The first events of the bits whose waves are drawn, and out of how many. "some": those of overlapped reads and of
 // the fault, or else those that are written, five of them at most, that of the fault first.
 function wavesOf(events, fault, choice) {
   const seen = events.slice(0, fault ?? events.length), firsts = new Map();
@@ -78,9 +78,9 @@ const ORDER = 34; // between the lanes, for the order of the operations
 // The picture of `events`, of which the one at place `fault` is at fault (null: none is), and the one at `broken` not of the program, in a
 // frame with room for the events `whole`. `found` has what is found about the calls, if that is a fault: its cause, its place and, if one
 // contradicts it, the place of that; the counts wrap at `roundAt`. `words` is its heading, of the mood "good", "bad" or none, with that of
-// the `ring`; `kind` and `why` are of the fault, `due` is what was due. `calls` are braced, with room for braces if it `hasCalls`; the
-// operations of the `order` are between the lanes. `waves` is "some", "all" or "none". The events have the numbers of their lines, or else
-// `numbers`, which count what is `counted` up to `total`. The style sheet is in the picture if `theme` is given.
+// the `ring`; `kind` and `why` are those of the fault, `due` is what was due. `calls` are braced, with room for braces if it `hasCalls`;
+// the operations of the `order` are between the lanes. `waves` is "some", "all" or "none". The events have the numbers of their lines, or
+// else `numbers`, which count what is `counted` up to `total`. The style sheet is in the picture if `theme` is given.
 export function picture({
   shape,
   events,

@@ -13,7 +13,7 @@ const made = (like, name, attributes) => {
   return it;
 };
 
-// Keeps the names of this picture at the left, in this frame; those of none if it is not wider than its room.
+// Keeps the names of this picture at the left, in this frame; no names if it is not wider than its room.
 export function keepNames(svg, frame) {
   if (!isWide(svg)) return frame.replaceChildren();
   const {width} = svg.getBoundingClientRect(), box = svg.viewBox.baseVal;
@@ -23,7 +23,7 @@ export function keepNames(svg, frame) {
   frame.replaceChildren(kept);
 }
 
-// The parts of a legend: of each its shapes, in a picture of their own, and its words.
+// The parts of a legend: for each, its shapes, in a picture of their own, and its words.
 function partsOfLegend(legend) {
   const parts = [];
   let shapes = [];
@@ -44,7 +44,7 @@ function partsOfLegend(legend) {
   return parts;
 }
 
-// Keeps the legend of this picture under it, in this frame, as wide as the room; that of none if it is not wider than its room.
+// Keeps the legend of this picture under it, in this frame, as wide as the room; no legend if it is not wider than its room.
 export function keepLegend(svg, frame) {
   const legend = svg.querySelector(".legends"), isKept = Boolean(legend) && isWide(svg);
   legend?.classList.toggle("elsewhere", isKept);

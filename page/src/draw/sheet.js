@@ -1,5 +1,5 @@
 // The sheet that a history is drawn on: its places, an event or a line each, from left to right and row by row, in lanes of their sides.
-// Of a long history some rows are drawn.
+// Of a long history, only some rows are drawn.
 
 import { operationWords } from "../text/calls.js";
 import { styleOf } from "./style.js";
@@ -13,7 +13,7 @@ const MOST_ROWS = 12, FEW_ROWS = 3; // in one picture; of these around a place a
 const RING = {P: "producer", C: "consumer"};
 
 export const round = x => Math.round(x * 10) / 10;
-// A text as a picture may have it; what no XML has is replaced.
+// A text as a picture may have it; what XML does not allow is replaced.
 const NO_XML = /[^\t\n\r\x20-\ud7ff\ue000-\ufffd\u{10000}-\u{10ffff}]/gu;
 export const escape = text =>
   String(text).replace(NO_XML, "\ufffd").replace(/&/g, "&amp;").replace(/</g, "&lt;").replace(/>/g, "&gt;").replace(/"/g, "&quot;");
@@ -126,7 +126,7 @@ export function sheetOf({
   const placesDrawn = () =>
     drawn.flatMap(row => Array.from({length: Math.max(0, Math.min(each, count - row * each))}, (_, i) => row * each + i));
 
-  // A line through the row at a place, and its number marked; `kind` is its class. The line begins and ends so far down in the row.
+  // A line through the row at a place, and its number marked; `kind` is its class. The line begins and ends this far down in the row.
   const drawMark = (place, kind, from, to) => {
     if (!isDrawn(rowOf(place))) return;
     const y = top(rowOf(place)), at = x(place), number = String(numberOf(place)), narrow = Math.max(34, number.length * 7 + 8);

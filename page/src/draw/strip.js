@@ -1,6 +1,6 @@
-// How many items are inside over the whole of a recording, or a stretch of it, as a strip: dark what surely is, pale what may be more, with
-// the cursor, the line at fault and the one that contradicts it. A click or a key steps there; what is dragged over is shown larger, a
-// double click shows all again.
+// How many items are inside over the whole of a recording, or a stretch of it, as a strip: dark for what surely is, pale for what may be
+// more, with the cursor, the line at fault and the one that contradicts it. A click or a key steps there; what is dragged over is shown
+// larger, a double click shows all again.
 
 import { capacityIn } from "../text/recorded_lines.js";
 
@@ -39,8 +39,8 @@ function areaOf(numbers, top) {
   return `M0 ${STRIP_HIGH}${steps.join("")}V${STRIP_HIGH}Z`;
 }
 
-// A strip in this frame, whose clicks step to a line. The answer has `show`, of a recording with the line of the cursor and those of its
-// fault, or of none.
+// A strip in this frame, whose clicks step to a line. The result has `show`, for a recording with the line of the cursor and those of
+// its fault, or for none.
 export function stripIn(frame, stepToLine) {
   const svg = madeSvg("svg", {viewBox: `0 0 ${STRIP_WIDE} ${STRIP_HIGH}`, preserveAspectRatio: "none"}),
     words = document.createElement("span");
@@ -129,7 +129,7 @@ export function stripIn(frame, stepToLine) {
   };
 
   return {
-    // Of another recording all is shown again.
+    // For another recording, everything is shown again.
     show(of) {
       if (it?.lines !== of.lines) [first, last, drawn] = [1, of.lines.count, ""];
       it = of;

@@ -1,4 +1,4 @@
-// What the registers hold that a construction is built of: a row of each under the lanes, level for 0 and 1, else with its value between
+// What the registers hold that a construction is built from: a row for each under the lanes, level for 0 and 1, else with its value between
 // two lines, and hatched while it is being written.
 
 import { LEFT, escape, round } from "./sheet.js";
@@ -6,7 +6,7 @@ import { LEFT, escape, round } from "./sheet.js";
 const MOST_WAVES = 8, WAVE = 27, SWING = 18, HATCH = 8; // drawn at most; heights of one and of its step; between the lines of a hatch
 const LETTER = 7.6;
 
-// The registers whose waves are drawn, and of how many: those that the history accesses, all, or none.
+// The registers whose waves are drawn, and out of how many: those that the history accesses, all, or none.
 export function wavesOf(registers, accesses, choice) {
   if (choice === "none") return {drawn: [], of: 0};
   const used = new Set(accesses.map(it => it.register)), chosen = choice === "all" ? registers : registers.filter(it => used.has(it.name));
@@ -42,7 +42,7 @@ function hatch(a, b, y) {
   return lines.length ? `<path class="hatch" d="${lines.join("")}"/>` : "";
 }
 
-// Draws them, from so far `down` in a row on.
+// Draws them, from this far `down` in a row on.
 export function drawWaves({out, each, unit, top, rowOf, drawn}, {shown, accesses, count, down}) {
   shown.forEach((register, number) => {
     const y0 = down + number * WAVE, binary = isBinary(register, accesses), name = register.name;

@@ -8,14 +8,14 @@ const [SAFE, REGULAR, BY_READER, ATOMIC] = [1, 2, 4, 8];
 const FROM_SAFE = SAFE | REGULAR | BY_READER | ATOMIC, FROM_REGULAR = REGULAR | BY_READER | ATOMIC;
 
 // What is kept: the `values` of the writes since the oldest one that matters, whether one `isOpen`, the `floor` below which no read may be
-// of a write, and of each reader its own; of each reader the read under way, {before, low, ownLow}, or null; and the classes that were
+// of a write, and each reader's `own`; each reader's read under way, {before, low, ownLow}, or null; and the classes that were
 // `missed`.
 export const begunAt = (first, readers) =>
   ({values: [first], isOpen: 0, floor: 0, own: Array(readers).fill(0), reads: Array(readers).fill(null), missed: 0});
 
 const ended = ({values, isOpen}) => values.length - 1 - isOpen;
 
-// The numbers from the oldest write that matters on. Of a class that was missed nothing is kept.
+// The numbers from the oldest write that matters on. For a class that was missed, nothing is kept.
 function normal({values, isOpen, floor, own, reads, missed}) {
   const base = reads.reduce((least, it) => it ? Math.min(least, it.before) : least, values.length - 1 - isOpen);
   const lower = (number, isMissed) => isMissed ? 0 : Math.max(0, number - base);
@@ -41,7 +41,7 @@ export function readBegins(it, reader) {
   return {...it, reads: withAt(it.reads, reader, {before, low: Math.max(before, it.floor), ownLow: Math.max(before, it.own[reader])})};
 }
 
-// A read ends with a value, of `count` that there are.
+// A read ends with a value, one of the `count` that there are.
 export function readEnds(it, reader, value, count) {
   const {before, low, ownLow} = it.reads[reader], {values} = it, last = values.length - 1;
   const least = from => values.indexOf(value, from), reads = withAt(it.reads, reader, null);
@@ -57,5 +57,5 @@ export function readEnds(it, reader, value, count) {
   });
 }
 
-// The same with these classes missed, of which nothing is to be found any more.
+// The same with these classes missed, for which nothing more is to be found.
 export const without = (it, missed) => (it.missed | missed) === it.missed ? it : normal({...it, missed: it.missed | missed});

@@ -123,7 +123,7 @@ export function judged(exercise, construction, bounds = {}, report = () => {}) {
 const VERSION = "kegbygone-1", MOST_CODE = 600000;
 const SUM = /^[0-9a-f]{8}$/;
 
-// The CRC-32 of ASCII characters: any change within four of them that follow one another gives another.
+// The CRC-32 of ASCII characters: any change within four consecutive ones gives another.
 function sumOf(ascii) {
   let sum = -1;
   for (let i = 0; i < ascii.length; i++) {
@@ -144,7 +144,7 @@ export function handIn({exercise}, construction, name) {
   return `${code}.${sumOf(code)}`;
 }
 
-// What is in such a code, {exercise, name, text}; white space is left out, as a mail may break a line.
+// What is in such a code, {exercise, name, text}; white space is left out, as a mail program may break a line.
 export function readHandIn(code) {
   const wrong = words => new Wrong(`this code ${words}: copy it again, from ${VERSION} to its last character`);
   const own = code.replace(/\s+/g, "");

@@ -1,5 +1,5 @@
 // The explorer: a construction of a register under every interleaving and every answer of an overlapped read, up to a bound on its
-// operations. The search is breadth first over states, so the first history that is found for a class is a shortest one. It is tested and
+// operations. The search is breadth first over states, so the first history that is found for a class is a shortest one. It is tested,
 // not proved: what it finds is given to the proved audit, and what it does not find is a bound.
 
 import { CLASSES, begunAt, readBegins, readEnds, without, writeBegins, writeEnds } from "./audit.js";
@@ -14,8 +14,8 @@ export const BOUNDS = {
 const MOST_OPERATIONS = 1000; // of a side
 const LOOKED = 256; // states between two looks at the clock
 
-// The steps of a construction from a state: each {state, events}. An event is {side, does, value} of an operation, or {side, does,
-// register, value} of an access, with the values themselves; an access of an atomic register is one event.
+// The steps of a construction from a state: each {state, events}. An event is {side, does, value} for an operation, or {side, does,
+// register, value} for an access, with the values themselves; an access of an atomic register is one event.
 function stepsOf(procedures) {
   const {form, sides, registers, nodes, root, follow} = procedures;
   const withAt = (list, place, it) => list.map((old, i) => i === place ? it : old);
@@ -123,7 +123,7 @@ function longestOf({registers, nodes, root}, isOf) {
   });
 }
 
-// How many paths there are from the first state to one without a step: of each state the targets of its steps, and where the next begin.
+// How many paths there are from the first state to one without a step: `to` has each state's targets, `ends` where the next ones begin.
 function countPaths(to, ends) {
   const counts = new Float64Array(ends.count).fill(-1), stack = [0];
   while (stack.length) {
@@ -141,11 +141,11 @@ function countPaths(to, ends) {
   return counts[0];
 }
 
-// Explores a construction, up to a number of writes, and of reads of each reader. The answer has the strongest class that no history missed
-// (`best`, or null); of each class that was missed a shortest history (`found`: how many `steps`, and its `events`); how many states there
-// were, whether these are all (`isWhole`), and how many histories, or null if not all of them were explored. As far as it was explored,
-// `longest` has of a write and of a read the accesses of one with the most of them, `accesses` how many these are, and `registers` of each
-// register its name, its kind and how many values it takes. `report` is called with the number of states from time to time.
+// Explores a construction, up to a number of writes, and of reads of each reader. The result has the strongest class that no history missed
+// (`best`, or null); for each class that was missed, a shortest history (`found`: how many `steps`, and its `events`); how many states
+// there were, whether these are all (`isWhole`), and how many histories, or null if not all of them were explored. As far as it was
+// explored, `longest` has, for a write and for a read, the accesses of one with the most of them, `accesses` how many these are, and
+// `registers`, for each register, its name, its kind and how many values it takes. `report` is called with the number of states at times.
 export function explored(construction, bounds = {}, report = () => {}) {
   const {writes, reads, milliseconds, all, ...most} = {...BOUNDS, ...bounds}, began = performance.now();
   for (const count of [writes, reads])
@@ -156,7 +156,7 @@ export function explored(construction, bounds = {}, report = () => {}) {
     held: registers.map(it => it.first), writing: registers.map(() => -1), audit: begunAt(form.first, form.readers),
     sides: sides.map((_, side) => ({left: side ? reads : writes, node: -1, memory: firstMemory(side), answers: -1})),
   };
-  // Of each state the one from which it came, and by which step; and the targets of its steps, with the place where the next begin.
+  // For each state, the one from which it came, and by which step; and the targets of its steps, with the place where the next begin.
   const kept = new States(registers.length, sides.length), parents = new Numbers(Int32Array), taken = new Numbers(Int16Array),
         to = new Numbers(Uint32Array), ends = new Numbers(Uint32Array);
   const found = CLASSES.map(() => null);
@@ -218,7 +218,7 @@ export function explored(construction, bounds = {}, report = () => {}) {
   };
 }
 
-// The recording of a history, as docs/FORMATS.md has it.
+// The recording of a history, as docs/FORMATS.md describes it.
 export function recordingOf({first, values}, events) {
   const word = it =>
     Number.isInteger(it) && it >= 0 ? it : values; // what is not a number of the format becomes the least number that is not a value

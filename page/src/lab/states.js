@@ -1,12 +1,12 @@
 // The states of a search: what the registers hold, how far each side is, and what the audit keeps. They are kept as numbers of 16 bits
 // in one array that grows, with a table by which each is found again, so that a million of them have room. A state is {held, writing,
-// sides, audit}: of each register the code of what it holds, and of what is being written to it, or -1; of each side {left, node, memory,
-// answers}: how many operations it still makes, the access that is under way or due, or -1, what it remembers, and if an access is under
-// way the answers that it may have, a bit each, else -1.
+// sides, audit}: for each register, the code of what it holds, and of what is being written to it, or -1; for each side {left, node,
+// memory, answers}: how many operations it still makes, the access that is under way or due, or -1, what it remembers, and if an access is
+// under way the answers that it may have, a bit each, otherwise -1.
 
 const HALF = 15, LOW = (1 << HALF) - 1; // bits of a number that is kept as two
 
-// Numbers that become more.
+// A growing list of numbers.
 export class Numbers {
   constructor(kind) {
     this.all = new kind(1 << 10);
@@ -104,7 +104,7 @@ export class States {
     return this.count - 1;
   }
 
-  // The state of this number.
+  // The state with this number.
   at(id) {
     const {numbers: {all}, form: {registers, sides}} = this;
     let at = this.begin(id);

@@ -1,5 +1,5 @@
-// Recorded calls, by what the proved module says of them: their verdict and report, their picture. Their lines are numbered; the queue's is
-// the first.
+// Recorded calls, by what the proved module says about them: their verdict and report, their picture. Their lines are numbered; the queue's
+// is the first.
 
 import { MOST_CALLED } from "../text/calls.js";
 import { effectsOf } from "./orders.js";
@@ -28,8 +28,8 @@ export function callsView(module) {
     most: whole => whole.lines.count - 1,
     // It opens at the line at fault.
     first: whole => (whole.line || whole.lines.count) - 1,
-    // What is found about a beginning is what is found about the whole if the line at fault is in it, and else it is lawful (law
-    // `beginning_is_linearizable`); its report is asked for, of a long recording a little later.
+    // What is found about a beginning is what is found about the whole if the line at fault is in it, and otherwise it is lawful (law
+    // `beginning_is_linearizable`); its report is asked for, a little later if the recording is long.
     at(whole, shown) {
       const {text, lines} = whole, isFaulty = whole.line > 0 && whole.line <= shown + 1;
       const it = isFaulty ? whole : {...whole, words: "lawful", cause: "", line: 0, against: 0};

@@ -1,7 +1,7 @@
 // Playing a script by hand: what each side does next, which rule is broken, and what is to be reached. The module says what a side does,
 // what a read may answer, and what is found about the calls.
 
-// What a player may be after, by the words with which the audit of the calls says that it has come; and what is missing as long as it has
+// What a player may be after, by the words with which the audit of the calls says that it is reached; and what is missing as long as it has
 // not.
 export const GOALS = [
   {
@@ -46,13 +46,13 @@ export function missingOf(goal, found, calls, wrong) {
   return GOALS.find(it => it.name === goal).lacks(calls);
 }
 
-// An event as a button has it; of a read that a write overlaps without its answer.
+// An event as a button shows it; a read that a write overlaps is shown without its answer.
 export const eventWords = ({act, bit, value, overlapped}) =>
   [act, bit, ...(value === undefined || act === "got" && overlapped ? [] : [value])].join(" ");
 
 export const isAsked = it => it?.act === "got" && it.overlapped;
 
-// The side that an answer is for: that which was asked for last, or the one alone that ends an overlapped read.
+// The side that an answer is for: the one that was asked for last, or the only one that ends an overlapped read.
 export function answering(nexts, last) {
   const asked = ["P", "C"].filter(side => isAsked(nexts[side]));
   return asked.includes(last) ? last : asked.length === 1 ? asked[0] : null;

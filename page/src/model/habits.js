@@ -1,5 +1,5 @@
 // Hints beside a fault of recorded calls, if a habit explains it. Each is another way to write the recording, and is given only if the
-// module, asked about the recording so written, finds no fault or a later one.
+// module, asked about the recording written that way, finds no fault or a later one.
 
 import { capacityIn, isUnderWay, itemsOf, lineIn, wantedAt } from "../text/recorded_lines.js";
 
@@ -107,7 +107,7 @@ function turnHints(ask, text, lines, {cause, line}) {
             : [];
 }
 
-// The hints on this fault: {words, label, text, found}; `found` is what the module finds of the `text` as the hint has it.
+// The hints on this fault: {words, label, text, found}; `found` is what the module finds in the `text` as the hint changes it.
 export function habitsFor(module, text, lines, found) {
   const ask = (changed, isLater = true) => {
     const it = module.calls(changed);

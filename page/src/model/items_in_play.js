@@ -1,4 +1,4 @@
-// What is inside at a moment of a play: what the bits hold, by what the module says of each event, and the items, by the places at which
+// What is inside at a moment of a play: what the bits hold, by what the module says about each event, and the items, by the places at which
 // the operations take effect.
 
 const MOST_SHOWN = 12; // bits of a count, or cells, that are shown; of more those that hold a 1, or that are being written
@@ -37,7 +37,7 @@ export function scansOf(bits) {
 }
 
 // A row of the panel: {name, title, parts}, each part {words, isNow, isOpen}: whether the last event made it so, and whether it is being
-// written; and of a count its `scans`.
+// written; and for a count its `scans`.
 export function rowsInside({shape, events, roundAt = shape.modulus}, order) {
   const bitAt = bitsBehind(events), last = events.at(-1), rows = [];
   const part = (bit, first, words = it => it) => {

@@ -1,5 +1,5 @@
-// What is inside the queue at a line of recorded calls: how many items by what has ended, and which these are. It counts; that the lines up
-// to there are a queue's, the module says.
+// What is inside the queue at a line of recorded calls: how many items by what has ended, and which these are. It only counts: the
+// module says that the lines up to there are a queue's.
 
 import { capacityIn, isUnderWay, itemNumbered, itemsOf, wantedAt } from "../text/recorded_lines.js";
 
@@ -13,7 +13,7 @@ export function countsAt(lines, line, most) {
 export const rangeWords = ({low, high}) => low === high ? String(low) : `${low} to ${high}`;
 
 // The items inside at a line, the next one first: {all, items}; `all` is how many there may be, and each item is {item, isPerhaps}. One
-// that the take under way may have, or that the put under way may not have put yet, is perhaps inside.
+// that the take under way may have taken already, or that the put under way may not have put yet, is perhaps inside.
 function itemsAt(text, lines, line) {
   const [put, take] = ["P", "C"].map(side => isUnderWay(text, lines, side, line)), first = lines.taken[line], past = lines.stored[line];
   const sure = first + (take ? wantedAt(text, lines, take) : 0), offered = put && !lines.closedAt ? itemsOf(text, lines, put) : [];

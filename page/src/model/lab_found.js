@@ -1,4 +1,4 @@
-// What the lab's worker posts, taken for plain data alone, and judged by the proved module: each history that is found misses its class,
+// What the lab's worker posts, taken as plain data alone, and judged by the proved module: each history that is found misses its class,
 // and each access in it is answered as its register's kind permits.
 
 import { CLASSES } from "../lab/audit.js";
@@ -28,7 +28,7 @@ function isEvent(it, sides, names, values) {
   return does === "got" ? value === null || Number.isSafeInteger(value) : value === undefined;
 }
 
-// A copy of one. (What the end of a write wrote its begin says.)
+// A copy of one. (The start of a write says what its end wrote.)
 const eventOf = ({side, does, register, value}) =>
   ({side, does, register, value: register !== undefined && does === "wrote" ? undefined : value});
 
@@ -48,7 +48,7 @@ export function plainFound(it) {
   return {values, first, readers, registers, states, isWhole, histories: histories === null ? null : Number(histories), found};
 }
 
-// What was posted of an exercise, {isMet, lines}, if it is as it has to be; else null.
+// What was posted about an exercise, {isMet, lines}, if it is as it has to be; else null.
 export function plainMet(it) {
   const isLine = line => isObject(line) && typeof line.is === "boolean" && isText(line.words);
   if (!isObject(it) || !allOf(it.lines, MOST_LINES, isLine)) return null;
@@ -80,7 +80,7 @@ export function judgedFound(module, given) {
     if (differs) return none(`The explorer and the proved audit differ on the history that is “not ${name}”: ${differs}.`);
     misses.push({class: name, ...history, verdict, why: missOf(verdict, name)});
   }
-  // a history of a weaker class is shown once; with one reader, `atomic by reader` is not shown apart
+  // a history of a weaker class is shown once; with one reader, `atomic by reader` is not shown separately
   const own = misses.filter(it => found.readers > 1 || it.class !== "atomic by reader"),
     isTold = (it, place) => own.slice(0, place).some(other => other.recording === it.recording);
   const best = Math.min(CLASSES.length - 1, ...misses.flatMap(it => [rankOf(it.class) - 1, rankOf(it.verdict.class)]));

@@ -1,4 +1,4 @@
-// What is found about a construction: at once if it was explored before, else by the lab's worker, meanwhile with what was found before it.
+// What is found about a construction: at once if it was explored before, else by the lab's worker, and until then what was found before.
 // A text that came by a link waits until the reader asks for it.
 
 import { judgedFound, plainMet } from "./lab_found.js";
@@ -23,7 +23,7 @@ export const boundOf = ({text, bound, exercise}) =>
   exercise ? {writes: exercise.needs.writes, reads: exercise.needs.reads} : bound ?? boundIn(text);
 
 // A reader over the module and an asker (core/lab_asker.js). `show` is called when there is something new, `meanwhile` with words on what
-// is under way. The answer has `read`, of a state, and `stop`.
+// is under way. The result has `read`, for a state, and `stop`.
 export function labReaderOf({module, asker, show, meanwhile}) {
   const kept = new Map(); // by its text and bound
   let timer = 0, last = null, under = ""; // what was found last; the key of what is under way

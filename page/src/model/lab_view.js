@@ -1,5 +1,5 @@
-// A construction of a register, by what the explorer found about it and the proved module says of each history: the strongest class that no
-// history missed, up to the bound, and of each class that is missed a shortest history.
+// A construction of a register, by what the explorer found about it and the proved module says about each history: the strongest class that
+// no history missed, up to the bound, and for each class that is missed, a shortest history.
 
 import { history } from "../draw/history.js";
 import { KINDS_OF_REGISTERS } from "../lab/procedures.js";

@@ -1,4 +1,4 @@
-// Of a play, letter by letter: the replies and the letters that brought them, and the letter of each event.
+// A play, letter by letter: the replies and the letters that brought them, and the letter of each event.
 
 export const MOST_MOMENTS = 100; // replies that are listed
 export const LISTED_LETTERS = 20000; // letters of a script whose replies are listed

@@ -12,7 +12,7 @@ export const lessonAt = ({lessons}, {mode, lesson}) => lessons.findIndex(it => i
 export const titled = (lessons, step) =>
   ({...step, title: step.title ?? lessons.find(it => it.mode === step.mode && it.name === step.name).title});
 
-// The side whose call a key ends: that which moved last if its call is under way, or else the other one if that has one.
+// The side whose call a key ends: the one that moved last if its call is under way, or else the other one if that has one.
 function sideOfKey(events, calls) {
   const last = events.at(-1)?.side ?? "P", isOpen = side => calls.some(it => it.side === side && !it.reply),
     other = last === "P" ? "C" : "P";

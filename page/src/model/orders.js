@@ -6,7 +6,7 @@ import { WORDS } from "../core/words.js";
 // The module's numbers of operations.
 export const DOES = {in: 17, "no room": 18, "found closed": 19, close: 20, out: 21, "found fewer": 22, "found drained": 23};
 
-// The numbers in the line that ends a call: of a put that stored some, how many, and of a take its items.
+// The numbers in the line that ends a call: for a put that stored some, how many; for a take, its items.
 const endNumbers = ({side, reply, items, offered = items}) =>
   side === "C" ? items : reply === "some" || reply === "stored" && items.length < offered.length ? [items.length] : [];
 

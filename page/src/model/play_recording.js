@@ -47,7 +47,7 @@ export function repliesOf(calls, numbers) {
   return calls.filter(it => it.reply).sort((a, b) => a.end - b.end).map(it => ({letter: numbers[it.end], words: words[it.reply](it)}));
 }
 
-// The recording of calls at a queue of this capacity as far as the first `count` events: its text, and of each of its lines the place of
+// The recording of calls at a queue of this capacity as far as the first `count` events: its text, and for each of its lines the place of
 // its event.
 export function recordingOf(calls, capacity, count = Infinity) {
   const lines = calls.flatMap(({side, kind, begin, end, reply, items, offered = [], wanted = 1}) => {

@@ -1,4 +1,4 @@
-// What the module says of the whole of a text: at once if that is short, else by the worker, meanwhile with the words of what is under way.
+// What the module says about the whole of a text: at once if that is short, else by the worker, and until then what is under way.
 
 import { orStopped } from "../core/module.js";
 

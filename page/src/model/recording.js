@@ -1,4 +1,4 @@
-// What the module says of the whole of a recording.
+// What the module says about the whole of a recording.
 
 import { linesOf, startsOf } from "../text/recorded_lines.js";
 

@@ -1,4 +1,4 @@
-// A recorded register, by what the proved module says of it: its class, of each class that it misses why, its picture. Its lines are
+// A recorded register, by what the proved module says about it: its class, why it misses others, its picture. Its lines are
 // numbered; the register's is the first.
 
 import { history } from "../draw/history.js";
@@ -26,7 +26,7 @@ export function registerView(module) {
     most: whole => whole.lines.count - 1,
     // It opens at the line at fault.
     first: whole => (faultOf(whole) || whole.lines.count) - 1,
-    // A beginning of a recording is a recording of its own, and its verdict is asked for; but of a long one that of the whole is shown.
+    // A beginning of a recording is a recording of its own, and its verdict is asked for; but for a long one that of the whole is shown.
     at(whole, shown) {
       const {text, lines} = whole, isAll = shown === lines.count - 1, line = faultOf(whole);
       const it = isAll || lines.count > MOST_ASKED ? whole : module.register(text.slice(0, lines.starts[shown + 2]));

@@ -1,4 +1,4 @@
-// A script, by what the proved module says of its play: its replies, its calls and their verdict, its picture. Its letters are numbered.
+// A script, by what the proved module says about its play: its replies, its calls and their verdict, its picture. Its letters are numbered.
 
 import { lettersOf, momentsOf } from "./letters.js";
 import { effectsOfRun } from "./orders.js";
@@ -37,7 +37,7 @@ const ROWS = [
 ];
 
 export function scriptView(module) {
-  // The play of a script's first letters, by the ring or by the one that is nearly right which it names.
+  // The play of a script's first letters, by the ring or by the nearly right one that it names.
   const playOf = script => (letters, isDrawn = true) =>
     script.wrong ? module.playNear(script.wrong, script, letters, isDrawn) : module.play(script, letters, isDrawn);
 

@@ -1,5 +1,5 @@
 // A small recording with the fault of a larger one, sought as record/shrink seeks it: items are left out, each from its put and its take,
-// and calls that passed none; and calls that overlapped come one after the other. A step is kept only if the module finds a fault of the
+// and calls that passed none; and calls that overlapped come one after the other. A step is kept only if the module finds a fault with the
 // same words, numbers aside, in the line that was at fault, which is then the last one.
 
 import { itemsOf, lineIn, wantedAt } from "../text/recorded_lines.js";
@@ -9,7 +9,7 @@ const NEAREST = 32; // lines before the fault that are tried first
 
 export const withoutNumbers = words => words.replace(/\d+/g, "N");
 
-// Of a call that begins at this line the number of an item that did not pass, at this place, or of what the call is without items.
+// For a call that begins at this line: the number of an item that did not pass, at this place, or of what the call is without items.
 const otherNumber = (line, at) => -(line * PLACES + at + 1);
 const lineOfOther = number => Math.floor((-number - 1) / PLACES);
 
@@ -118,7 +118,7 @@ function historyOf(text, lines, fault) {
     }),
     left: (kept,
       isWhole) => [...new Set([...kept].flatMap(callsOf))].flatMap(it => linesLeft(it, kept, isWhole)).sort((a, b) => a.line - b.line),
-    // Of the items that were stored and are inside one more than there may be, in as few calls as can be.
+    // Among the items that were stored and are inside, one more than there may be, in as few calls as possible.
     tooMany(most) {
       const taken = new Set(last.kind === "take" ? last.numbers : []), puts = [];
       for (let at = Math.max(placeOf("P", first), 0); at < begins.P.length; at++) {
@@ -154,7 +154,7 @@ function* guesses(history, words, fault) {
   }
 }
 
-// The smallest recording that is found with the fault that is `found` of this one before `isOver`: {text, words, isWhole}; `show` is called
+// The smallest recording that is found with the fault that is `found` in this one before `isOver`: {text, words, isWhole}; `show` is called
 // with each smaller one.
 export function shrunk(module, text, lines, found, isOver, show) {
   const head = lineIn(text, lines, 1), fault = found.line, words = withoutNumbers(found.cause),

@@ -1,4 +1,4 @@
-// A trace, by what the proved module says of it: its verdicts, its picture, what a step is. Its lines are numbered; the shape's is the
+// A trace, by what the proved module says about it: its verdicts, its picture, what a step is. Its lines are numbered; the shape's is the
 // first.
 
 import { MOST_CALLED, callsOf, callsUntil } from "../text/calls.js";
@@ -6,7 +6,7 @@ import { effectsOfRun } from "./orders.js";
 import { breakOf, dueOf, ringVerdict, uncalledOf, whyOf } from "./verdicts.js";
 import { picture } from "../draw/picture.js";
 
-// What an event is, and what the module says of the moment just after it, if `isTold`.
+// What an event is, and what the module says about the moment just after it, if `isTold`.
 export function stepWords({side, act, bit, value, held, overlapped, clashes}, where, isTold) {
   const words = `${where}: ${side} ${act} ${bit}${value === undefined ? "" : ` ${value}`}`;
   if (!isTold) return words;
@@ -19,7 +19,7 @@ export function stepWords({side, act, bit, value, held, overlapped, clashes}, wh
   return act === "wrote" ? `${words}, ${bit} holds ${held}` : words;
 }
 
-// Whether a trace shows a ring: one whose first event is of no program, as its beginnings too, shows bits alone.
+// Whether a trace shows a ring: one whose first event is of no program shows bits alone, and so do its beginnings.
 const showsRing = ({programs}) => programs.isRun || programs.place > 0;
 
 // The picture of a history of bits.

@@ -1,5 +1,5 @@
 // What an author of a queue has beside recorded calls: how many items were inside over the whole run, ways from line to line, what is
-// inside at the cursor, what a habit may explain of a fault, and a small recording with the same fault.
+// inside at the cursor, what a habit may explain about a fault, and a small recording with the same fault.
 
 import { showContents } from "./contents.js";
 import { finderOf } from "./finder.js";
@@ -15,7 +15,7 @@ const REST = 200; // milliseconds after the last step or edit, before the worker
 
 const buttonOf = (label, does) => Object.assign(node("button", label), {type: "button", onclick: does});
 
-// Shows what may explain a fault, each with what the module finds of the recording as that has it; `open` puts that into the editor.
+// Shows what may explain a fault, each with what the module finds in the recording changed accordingly; `open` puts that into the editor.
 function showHabits(habits, open) {
   $("hints").replaceChildren(...habits.map(({words, label, text, found}) => {
     const then = found.line ? `Then the first fault is in line ${found.line}: ${found.cause}. ` : "Then it is lawful. ",
@@ -25,7 +25,7 @@ function showHabits(habits, open) {
   }));
 }
 
-// The button that looks for a small recording with the same fault, or stops that. The answer has `end`, for another recording, and `of`,
+// The button that looks for a small recording with the same fault, or stops that. The result has `end`, for another recording, and `of`,
 // which names the one that is shown.
 function shrinkingOf({asker, open}) {
   let text = "", name = "", isOn = false;
@@ -51,12 +51,12 @@ function shrinkingOf({asker, open}) {
   return {end: stop, of: (itsText, itsName) => [text, name] = [itsText, itsName]};
 }
 
-// The pane, over an asker (asker.js). `acts` has `stepToLine`, `open`, and `fillReport`. The answer has the `keys` of recorded calls.
+// The pane, over an asker (asker.js). `acts` has `stepToLine`, `open`, and `fillReport`. The result has the `keys` of recorded calls.
 export function authorPane(acts, asker) {
   const strip = stripIn($("strip"), acts.stepToLine), finder = finderOf(acts.stepToLine), shrinking = shrinkingOf({asker, open: acts.open});
   let text = null, explained = null, at = 0, resting = 0, inStrip = null; // what is shown; whose habits were asked for; the cursor
 
-  // What a step needs of the worker, once no other follows.
+  // What a step needs from the worker, once no other follows.
   const ask = (whole, it, line, until) => {
     if (whole.line && explained !== text) asker.ask(explained = text, "hints", {}, habits => showHabits(habits, acts.open));
     if (it.report) return;

@@ -1,5 +1,5 @@
-// Two recordings, one under the other: the one that is shown, and one that was kept, at its own fault, or at its end if it is lawful. Of
-// the kept one its text, its heading and its picture are left.
+// Two recordings, one under the other: the one that is shown, and one that was kept, at its own fault, or at its end if it is lawful. Only
+// the text, the heading and the picture of the kept one are left.
 
 import { $, node } from "../core/dom.js";
 import { put, textFor } from "../draw/frame.js";
@@ -20,8 +20,8 @@ function fillHead(head, {refused, words, line, isCut, lines}, name, note = "") {
 // The name of a text, for a reader.
 const nameOf = ({example, file}) => example || file || "recording";
 
-// The pane. `acts` has `open`, which shows a text, `redraw`, and `aspect`, of the room of a picture. Neither in a course nor with the
-// picture alone is the kept one shown.
+// The pane. `acts` has `open`, which shows a text, `redraw`, and `aspect`, of the room of a picture. The kept one is shown neither
+// in a course nor with the picture alone.
 export function comparisonPane(acts) {
   let second = null, state = null, now = null; // what puts the kept one into the editor again
   const isOn = () => second !== null && state.mode === "calls" && state.course === null && !state.isLarge;

@@ -1,4 +1,4 @@
-// What the queue holds: of a play, its items, counts, cells and the close bit; of recorded calls, its items at the cursor.
+// What the queue holds: for a play, its items, counts, cells and the close bit; for recorded calls, its items at the cursor.
 
 import { $, node } from "../core/dom.js";
 import { rowsInside } from "../model/items_in_play.js";
@@ -19,7 +19,7 @@ export function showContents(rows) {
     $("inside").append(node("span", `A scan that lies in this moment gives ${counts.map(scanWords).join(", and ")}.`, "scans"));
 }
 
-// Of a play. (That of recorded calls is filled by their tools, once the cursor rests: author_tools.js.)
+// The contents in a play. (For recorded calls their tools fill the pane, once the cursor rests: author_tools.js.)
 export const contentsPane = () => ({
   render({mode}, {nexts, it, whole, isRefused}) {
     if (mode !== "calls" || isRefused) showContents(nexts ? rowsInside({...it, roundAt: whole.roundAt}, whole.order) : []);

@@ -1,4 +1,4 @@
-// The editor: a text, with the numbers of its lines. Of one that is too long for it it shows some lines, which cannot be edited.
+// The editor: a text, with the numbers of its lines. If a text is too long for it, it shows some lines, which cannot be edited.
 
 import { MOST_LINKED } from "../core/address.js";
 import { $, node } from "../core/dom.js";
@@ -18,7 +18,7 @@ export function editorPane(acts) {
   let long = null; // of a text that is too long: {lines, first, last, at}, of whose lines, if they are known, those from `first` on are
                    // seen, from the character `at` on
 
-  // Puts a text in. Of one that is too long its `lines` are those that were found in it; until they are, its beginning is shown.
+  // Puts a text in. If it is too long, `lines` are those that were found in it; until they are found, its beginning is shown.
   const put = (text, lines) => {
     if (text === shownText && !(long && long.lines !== lines)) return;
     long = text.length > MOST_LINKED ? {lines, first: 0, last: 0, at: 0} : null;
@@ -29,7 +29,7 @@ export function editorPane(acts) {
     if (field.value !== seen) field.value = seen;
   };
 
-  // Of a text that is too long: those of its lines that are around this one. They stay while it is not at their edge.
+  // Shows, of a text that is too long, the lines around this one. They stay while it is not at their edge.
   const showLines = line => {
     if (!long?.lines || long.first + EDGE <= line && line <= long.last - EDGE) return;
     const {lines: {starts, count}} = long, first = Math.max(1, Math.min(line - SEEN_LINES / 2, count - SEEN_LINES + 1));
@@ -77,7 +77,7 @@ export function editorPane(acts) {
     if (hasLines) scrollToLine(field.value.slice(0, from - at).split("\n").length + (long?.first ?? 1) - 1);
   };
 
-  // What comes of a paste: of a long text the page puts it in, of one too long for the editor in place of all that was there. The browser
+  // A paste: the page itself inserts a long text, and one too long for the editor replaces everything that was there. The browser
   // does not undo that, so the page leaves what was there, to which Back leads.
   field.onpaste = event => {
     const text = event.clipboardData.getData("text/plain").replace(/\r\n?/g, "\n");
@@ -103,7 +103,7 @@ export function editorPane(acts) {
       for (let at = long?.first ?? 1; at < line; at++) from = shownText.indexOf("\n", from) + 1;
       select({from, to: shownText.indexOf("\n", from)}, true, goes);
     },
-    // To the top, and to the line that is marked; else to the last that is shown, of `shown` events, or to the last that is seen.
+    // To the top, and to the line that is marked; otherwise to the last that is shown, of `shown` events, or to the last that is seen.
     scrollToMarked(shown) {
       box.scrollTop = 0;
       scrollToLine(Number($("numbers").querySelector("b")?.textContent ?? (shown < Infinity ? shown + 1 : long?.last ?? 1)));

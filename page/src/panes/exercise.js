@@ -1,4 +1,4 @@
-// An exercise of a teacher's: the task, what of it is met, and once all of it is the code to hand in.
+// An exercise of a teacher's: the task, which requirements are met, and, once all are, the code to hand in.
 
 import { $, node } from "../core/dom.js";
 import { saveAs } from "../core/saving.js";

@@ -1,4 +1,4 @@
-// Ways from line to line of recorded calls: to the fault, to the lines that speak against it, from call to call, to a line, and to those
+// Ways from line to line of recorded calls: to the fault, to the lines that contradict it, from call to call, to a line, and to those
 // that name an item.
 
 import { $ } from "../core/dom.js";
@@ -21,8 +21,8 @@ function onEnter(field, does) {
   };
 }
 
-// The buttons, fields and keys for these ways, which step to a line. The answer has `show`, of a recording {text, lines, line, against,
-// cause} with the line at fault and the cursor in a line, or of none, and the `keys`.
+// The buttons, fields and keys for these ways, which step to a line. The result has the `keys`, and `show`, which is called with a
+// recording {text, lines, line, against, cause} with the line at fault, or with null, and with the line of the cursor.
 export function finderOf(stepToLine) {
   let whole = null, cursor = 0;
 

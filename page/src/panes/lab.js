@@ -1,5 +1,5 @@
-// Of a register: a button for each class that it misses. Of a construction also the bound of the search, the text that waits to be run, and
-// the recording of the history that is shown.
+// For a register: a button for each class that it misses. For a construction, also the bound of the search, the text that waits to be run,
+// and the recording of the history that is shown.
 
 import { $, node } from "../core/dom.js";
 import { MOST_BOUND, boundOf } from "../model/lab_reading.js";

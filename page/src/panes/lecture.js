@@ -48,7 +48,7 @@ function notesWindow() {
       p(next ? `Next: ${next.title} (${next.minutes})` : "This is the last step.", "dim"));
   };
   return {
-    // Opens it; the answer is whether the browser lets it.
+    // Opens it; the result is whether the browser lets it.
     open(shown) {
       other = window.open("", "ring notes", "width=560,height=640");
       if (!other) return false;
@@ -74,7 +74,7 @@ function boardOf({title, rows = [], commands = []}) {
   return [node("h2", title), ...rows.length ? [table] : [], ...commands.map(it => node("pre", it))];
 }
 
-// The pane. `acts` has `reveal`, `setLarge`, `setNotes` and `redraw`. The answer has the `keys` of a lecture.
+// The pane. `acts` has `reveal`, `setLarge`, `setNotes` and `redraw`. The result has the `keys` of a lecture.
 export function lecturePane(acts, {lessons, course}, titled) {
   const notes = notesWindow();
   let state = null, shown = null, boardFor = null;

@@ -28,7 +28,7 @@ function termOf(words, means) {
   return it;
 }
 
-// Adds words to a paragraph, each of these terms that was not told yet with its meaning.
+// Adds words to a paragraph, each of these terms that has not been explained yet with its meaning.
 function addWords(it, words, told) {
   for (let rest = words; rest;) {
     const found = TERM.exec(rest), term = found?.[0].toLowerCase();
@@ -40,7 +40,7 @@ function addWords(it, words, told) {
   }
 }
 
-// A paragraph of a story: what stands in backticks is code, and where it is the name of a lesson a link, with its title.
+// A paragraph of a story: what is in backticks is code, or, if it is the name of a lesson, a link with its title.
 function paragraph(text, lessons, told = new Set(Object.keys(MEANS))) {
   const it = node("p", "");
   text.split("`").forEach((words, i) => {

@@ -60,7 +60,7 @@ export function picturePane(acts, comparison) {
     }
     const aspect = aspectNow(isSmall.matches, comparison.isOn() ? 2 : 1);
     const drawnBy = more => textFor(now.drawing, {aspect, ...comparison.rows(), ...more, ...state.isFolded ? NOTHING_FOUND : {}});
-    // With the picture alone its letters are large, if all of it fits so.
+    // With the picture alone its letters are large, if all of it fits that way.
     const large = state.isLarge ? drawnBy({widest: Math.max(NARROWEST, innerWidth / LARGE)}) : null,
       drawn = large && large.aspect <= aspect ? large : drawnBy({});
     document.body.classList.toggle("long", !state.isLarge && drawn.aspect > aspect * LONG); // (first: it decides how wide the picture is)

@@ -1,4 +1,4 @@
-// Of a text that is refused: its place, what is offered instead, a sample of the format, and the last picture.
+// For a text that is refused: the place, what is offered instead, a sample of the format, and the last picture.
 
 import { $, node } from "../core/dom.js";
 import { offersFor } from "../text/kinds.js";

@@ -1,4 +1,4 @@
-// Below the text: a report and, of a script, its replies, each a button that steps to the letter that brought it.
+// Below the text: a report and, for a script, its replies, each a button that steps to the letter that brought it.
 
 import { $, node } from "../core/dom.js";
 import { LISTED_LETTERS, MOST_MOMENTS } from "../model/letters.js";
@@ -6,7 +6,7 @@ import { LISTED_LETTERS, MOST_MOMENTS } from "../model/letters.js";
 const NO_MOMENTS = [];
 const LABELS = {inside: "most inside"}; // of a row whose name alone might be taken for what is inside now
 
-// The pane. `acts` has `stepTo`, and `asTrace`, which opens the play that is shown as a trace. The answer has `fill` too, for a report that
+// The pane. `acts` has `stepTo`, and `asTrace`, which opens the play that is shown as a trace. The result has `fill` too, for a report that
 // comes later.
 export function reportPane(acts) {
   let inList = NO_MOMENTS; // what the list was made of

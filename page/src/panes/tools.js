@@ -1,4 +1,4 @@
-// What stands in the head of the page: waveforms, files, the theme, the help, the first screen.
+// What is in the head of the page: waveforms, files, the theme, the help, the first screen.
 
 import { $ } from "../core/dom.js";
 

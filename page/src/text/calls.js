@@ -2,8 +2,8 @@
 
 export const MOST_CALLED = 600; // events of a history whose calls are shown
 
-// The calls of the first events, as many as are of the programs: {side, kind, begin, end, reply, items, count}, from the place of the first
-// own event to that of the last, or to Infinity with no reply if it has not ended; `count` items are put, or taken, up to and with it. A
+// The calls of the first events, as many as are of the programs: {side, kind, begin, end, reply, items, count}, from the place of its first
+// event to that of its last, or to Infinity with no reply if it has not ended; `count` items are put, or taken, up to and with it. A
 // call of the producer begins when it may close, and ends when it may close again. One of the consumer begins with a scan that is not the
 // second scan of a take, after its read of the close bit as 1; it ends with the items that it takes, when it returns Closed, or when a
 // scan may begin again.

@@ -1,5 +1,5 @@
-// What kind of text one is, as any of its lines shows; what keeps a recording from being read, and the text without that. Whether a text is
-// of its format the module says.
+// What kind of text one is, as any of its lines shows; what keeps a recording from being read, and the text without that. The module says
+// whether a text is in its format.
 
 import { ANY_QUEUE, isLog, logRecording } from "./logs.js";
 
@@ -34,7 +34,7 @@ export function kindOf(text) {
 }
 
 // The first line with which a recording without one is lawful, if there is one, as record/head finds it: never full if no call reports it,
-// and else the least number that was surely inside. Only the author knows what the queue really holds.
+// and otherwise the least number that was surely inside. Only the author knows what the queue really holds.
 function headFor(body, module) {
   const {report} = module.calls(`${ANY_QUEUE}\n${body}`);
   if (!report || report.full === "0") return "queue";

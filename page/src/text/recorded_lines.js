@@ -1,5 +1,5 @@
-// The text of recorded calls: its lines, the calls that they begin and end, what is counted of them, and the rows of its report. Whether a
-// text is a recording, whether its history is linearizable, and what speaks against a line, the module says.
+// The text of recorded calls: its lines, the calls that they begin and end, what is counted of them, and the rows of its report. The module
+// says whether a text is a recording, whether its history is linearizable, and what contradicts a line.
 
 export const MANY = 2 ** 31 - 1; // a number that means itself and all larger ones
 
@@ -51,11 +51,11 @@ export function startsOf(text) {
   return {starts, count};
 }
 
-// The lines of a recording, counted from 1: `starts` and `count` as above. Of a line that begins a call the one that ends it, and of one
-// that ends a call the one that began it, is its mate (`mates`; 0: none), and the last line before it of the other side is in `others`.
-// `stored` and `taken` count the items of the puts and takes that have ended up to a line: `low` are inside then whatever the calls under
-// way have done, and no more than `high`. `closedAt` is the line that ended the first close, or 0, and `digits` how many the longest number
-// has.
+// The lines of a recording, counted from 1: `starts` and `count` as above. For a line that begins a call the one that ends it,
+// and for one that ends a call the one that began it, is its mate (`mates`; 0: none), and the last line before it of the other side is in
+// `others`. `stored` and `taken` count the items of the puts and takes that have ended up to a line: `low` are inside then whatever the
+// calls under way have done, and no more than `high`. `closedAt` is the line that ended the first close, or 0, and `digits` how many the
+// longest number has.
 export function linesOf(text) {
   const {starts, count} = startsOf(text),
     [mates, others, stored, taken, low, high] = Array.from({length: 6}, () => new Int32Array(count + 2));
@@ -103,7 +103,7 @@ export function endOfCall({mates, count}, line, by) {
 export const itemsOf = (text, lines, line) => lineIn(text, lines, line).split(" ").slice(2);
 export const wantedAt = (text, {starts}, line) => text[starts[line] + 6] === " " ? numberAt(text, starts[line] + 7) : 1;
 
-// The item of this number, from 0, among those that were stored.
+// The item with this number, from 0, among those that were stored.
 export function itemNumbered(text, lines, number) {
   let line = 1, past = lines.count;
   while (line < past) {
@@ -215,7 +215,7 @@ export function lineWords(text, lines, line) {
   return mate < line ? `${words}, the end of the call of line ${mate}` : words;
 }
 
-// What is said of a recording whose first line has that word, beside its verdict.
+// What is said about a recording whose first line has that word, beside its verdict.
 export const CUT = "cut: later calls are missing";
 
 // The report on a recording, as the command prints it: [name, value, what it counts]; `isCut` if later calls are missing.

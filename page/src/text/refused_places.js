@@ -47,7 +47,7 @@ export function jsonStop(text) {
   }
 }
 
-// The stretch of a line, counted from 1; of the end of the text if it has no such line.
+// The stretch of a line, counted from 1, or of the end of the text if it has no such line.
 function lineAt(text, line) {
   let from = 0;
   for (let before = 1; before < line; before++) from = text.indexOf("\n", from) + 1 || text.length;
@@ -71,7 +71,7 @@ const LINES = {
   }
 };
 
-// The cause, of a trace in the words of docs/FORMATS.md, "What a refusal says".
+// The cause; for a trace, in the words of docs/FORMATS.md, "What a refusal says".
 function causeIn(mode, text, line) {
   const {from, to} = lineAt(text, line), it = text.slice(from, to), {first, further} = LINES[mode];
   if (text === "") return `there is no text: line 1 is to be: ${first}`;

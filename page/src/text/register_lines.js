@@ -1,10 +1,10 @@
-// The text of a recorded register: its lines, and the operations that they begin and end. Whether a text is a recording, and what its
-// history is, the module says.
+// The text of a recorded register: its lines, and the operations that they begin and end. The module says whether a text is a
+// recording, and what its history is.
 
 import { MOST_DIGITS, longestIn, startsOf } from "./recorded_lines.js";
 
 // The operations of a recording, as far as each event is in its turn: {side, isWrite, value, answer, begin, end}, from the place of the
-// line that begins one to that which ends it, or to Infinity; a place is the number of a line, less 2. `strays` are the places of ends
+// line that begins one to the one that ends it, or to Infinity; a place is the number of a line, less 2. `strays` are the places of ends
 // without a start, and of starts while one is under way.
 export function operationsIn(text) {
   const lines = text.split("\n"), operations = [], open = new Map(), strays = [];
@@ -38,7 +38,7 @@ export function registerLines(text) {
 // The words of a line.
 export const registerLine = (text, {starts}, line) => `line ${line}: ${text.slice(starts[line], starts[line + 1] - 1)}`;
 
-// What the first line says of the register.
+// What the first line says about the register.
 export function registerHead(text) {
   const [, first, values] = text.slice(0, text.indexOf("\n")).replace(/^cut /, "").split(" ");
   return values ? `a register of the values 0 to ${BigInt(values) - 1n}, ${first} at first` : `a register of any number, ${first} at first`;
