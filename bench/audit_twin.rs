@@ -276,7 +276,7 @@ impl Row {
     }
 }
 
-// The progress of a put: of a scan the number of bits read as 0, of a word the number of digits written.
+// The progress of a put: in a scan, the number of bits read as 0; in a word, the number of digits written.
 #[derive(Clone, Copy)]
 enum Put {
     Resting,
@@ -383,7 +383,7 @@ impl Producer {
     }
 }
 
-// The progress of a take: of a scan (the first, or the one after a close) the number of bits read as 0, of a word the number of digits read.
+// The progress of a take: in a scan (the first, or the one after a close), the number of bits read as 0; in a word, of digits read.
 #[derive(Clone, Copy)]
 enum Take {
     Resting,

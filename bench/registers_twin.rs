@@ -415,7 +415,7 @@ struct Reading {
 }
 
 impl Reading {
-    // Reads the next piece; None if a line is not of the format.
+    // Reads the next piece; None if a line is not in the format.
     fn read(&mut self, piece: &[u8]) -> Option<()> {
         let mut rest = piece;
         while let (Some(end), false) = (rest.iter().position(|byte| *byte == b'\n'), self.is_over) {

@@ -1,4 +1,4 @@
-/* counter_ring.h: a ring of one producer and one consumer, of up to 64 numbers, whose code is proved (libcounter_ring.a, .so.1).
+/* counter_ring.h: a ring with one producer and one consumer, of up to 64 numbers, whose code is proved (libcounter_ring.a, .so.1).
  * C11, and C++ from C++11; Linux on x86-64 and ARM64.
  *
  *     ring_putter p = RING_NO_END;  ring_taker t = RING_NO_END;

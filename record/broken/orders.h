@@ -83,7 +83,8 @@ static int q_take(uint64_t *item) {
 #endif
 
 #if FORM == SEQUENCES
-/* Each slot has a number: of the put that may use it next, or one more, of the take. Bug 3: the put stores it relaxed. Bug 4: the take loads it relaxed. */
+/* Each slot has a number: that of the put that may use it next, or, one higher, of the take. Bug 3: the put stores it relaxed. Bug 4: the
+ * take loads it relaxed. */
 #define HEAD_LINE "queue 2"
 static struct { _Atomic uint64_t number, item; } slot[CAPACITY];
 static uint64_t put_number, take_number;
@@ -114,7 +115,7 @@ static int q_take(uint64_t *item) {
 #endif
 
 #if FORM == FENCES
-/* Relaxed accesses, ordered by fences. Bug 5: the fence of the put is missing. Bug 6: the first one of the take is. */
+/* Relaxed accesses, ordered by fences. Bug 5: the fence of the put is missing. Bug 6: the take's first fence is missing. */
 #define HEAD_LINE "queue 2"
 static _Atomic uint64_t slot[CAPACITY], head, tail;
 

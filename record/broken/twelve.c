@@ -19,7 +19,7 @@ static uint64_t puts_wanted = FORM == BATCHES ? 4 : FORM == NODES ? 5 : BUG == 5
 static void rest(bool stopped) { if (stopped) sched_yield(); }
 static bool goes_on(void) { return true; }
 #else
-/* If the end is lost, the consumer never learns of it: it gives up after some takes after the producer's end. */
+/* If the end is lost, the consumer never learns of it: it gives up some takes after the producer has finished. */
 static atomic_bool is_over;
 static bool goes_on(void) {
     static int late;

@@ -5,9 +5,10 @@
  * such code calls at each access of memory, so each plain and each atomic access in the test's own text is seen, with its memory order. The two
  * sides run as coroutines in one thread (steps.inc), one access after the other. An atomic access may find an older store than the newest, or come
  * before newer ones, as C++20 permits (stores.inc). A run is determined by which side begins and by its choices: who continues at a step, which store an access
- * finds, and the other kinds in steps.inc. If a side waits, yields or is over, the other continues, and that is not a choice. All runs without a choice are made,
- * then all with one, and so on. reset() is called before each. The calls of a run in which each access found the newest store, and which is therefore
- * sequentially consistent, are judged by the proved audit, libring_audit; those of other runs by happens-before (order.inc).
+ * finds, and the other kinds in steps.inc. If a side waits, yields or finishes, the other continues, and that is not a choice. All runs
+ * without a choice are made, then all with one, and so on. reset() is called before each. The calls of a run in which each access found the
+* newest store, and which is therefore sequentially consistent, are judged by the proved audit, libring_audit; those of other runs by
+ * happens-before (order.inc).
  *
  * The parts are one program. Each part begins with a description; besides its own state it changes only `run` (steps.inc), and for a side's access the
  * cells of memory.inc. */
@@ -27,9 +28,9 @@
  *  4. A preempted side makes at least one step before the other is preempted in turn; otherwise the two preemptions have no effect.
  * 2 and 3 do not affect happens-before: a side learns of the other only by its own accesses. A fence is part of the step before it.
  * What is left out (see README.md): values older than the last KEPT_STORES of a place. A side that yields, sleeps or waits with a time limit
- * lets the other make a step first, and its time passes only if the other waits or is over; a side that looks a third time at the same place, which nobody has
- * changed, within one call, is not preempted there, and after limit_spins such looks it is treated as if it yielded; so is one that
- * makes TURN accesses of nothing shared between two steps.
+ * lets the other make a step first, and its time passes only if the other waits or has finished; a side that looks a third time at the same
+ * place, which nobody has changed, within one call, is not preempted there, and after limit_spins such looks it is treated as if it
+ * yielded; so is one that makes TURN accesses of nothing shared between two steps.
  * What is not seen: assembly, libraries that are not instrumented, copies that the compiler expands itself (-fno-builtin leaves them to
  * memcpy, which is seen here word by word). A plain access of 16 bytes and a copy of a structure are one step each; if another side
  * sees half of it, this is reported as a data race.
@@ -142,7 +143,7 @@ void explore_event(int kind, const uint64_t *numbers, size_t n) {
     me->fresh = kind < RING_ENDS;
 }
 
-/* What the test draws: a number below n, 0 unless a choice says otherwise; outside of the two sides always 0. */
+/* What the test draws: a number below n, 0 unless a choice says otherwise; outside the two sides always 0. */
 unsigned explore_choose(unsigned n) {
     if (n == 0 || n > 256) {
         fprintf(stderr, "explore: explore_choose(%u) needs a number from 1 to 256\n", n);
@@ -588,7 +589,7 @@ static bool take_schedule(const char *text) {
     return replay.count > 0;
 }
 
-/* Bounds: of all choices, and of each sort. */
+/* Bounds: for all choices together, and for each sort. */
 static const char *take_bounds(void) {
     static const char *const names[SORTS] = { "EXPLORE_PREEMPTIONS", "EXPLORE_OLDER", "EXPLORE_FAILS", "EXPLORE_WAKES", "EXPLORE_DRAWS" };
     static char why[64];
@@ -673,7 +674,7 @@ static void at_the_end(void) {
 
 __attribute__((constructor)) static void watch_the_end(void) { atexit(at_the_end); }
 
-/* Allocates all memory once, with nothing known of any test; returns whether this was possible. */
+/* Allocates all memory once, with nothing known about any test; returns whether this was possible. */
 static bool take_memory(void) {
     static bool is_taken;
     if (!is_taken) {

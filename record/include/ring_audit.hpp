@@ -25,7 +25,7 @@ public:
     explicit operator bool() const { return is_lawful; }
     // `lawful`, or the words of the first line that is not.
     const std::string& words() const { return said; }
-    // The lines around that one and the one that contradicts it, as they are in the recording; of a lawful one none.
+    // The lines around that one and the one that contradicts it, as they are in the recording; none if it is lawful.
     const std::string& lines() const { return shown; }
     friend std::ostream& operator<<(std::ostream& out, const ring_audit_result& found) {
         return out << found.said << '\n' << found.shown;

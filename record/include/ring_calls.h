@@ -138,7 +138,7 @@ static inline void ring_calls_full(ring_calls *r) { ring_calls_event(r, &r->p, R
 static inline void ring_calls_stored_of(ring_calls *r, uint64_t m, uint64_t n) {
     if (m == 0) ring_calls_full(r); else ring_calls_event(r, &r->p, RING_STORED, &m, m < n);
 }
-/* the first m were stored, with no reason given why not more */
+/* the first m were stored, with no reason given why no more */
 static inline void ring_calls_some(ring_calls *r, uint64_t m) { ring_calls_event(r, &r->p, m ? RING_PUT_SOME : RING_PUT_NOTHING, &m, m > 0); }
 /* an all-or-nothing put of two items or more: none was stored, since there was not room for all */
 static inline void ring_calls_put_short(ring_calls *r) { ring_calls_event(r, &r->p, RING_PUT_SHORT, NULL, 0); }
@@ -154,7 +154,7 @@ static inline void ring_calls_take(ring_calls *r) { ring_calls_take_all(r, 1); }
 static inline void ring_calls_items(ring_calls *r, const uint64_t *items, size_t n) { ring_calls_event(r, &r->c, n ? RING_ITEM : RING_EMPTY, items, n); }
 static inline void ring_calls_item(ring_calls *r, uint64_t item) { ring_calls_items(r, &item, 1); }
 static inline void ring_calls_empty(ring_calls *r) { ring_calls_event(r, &r->c, RING_EMPTY, NULL, 0); }
-/* n items, with no reason given why not more */
+/* n items, with no reason given why no more */
 static inline void ring_calls_some_items(ring_calls *r, const uint64_t *items, size_t n) { ring_calls_event(r, &r->c, n ? RING_TAKE_SOME : RING_TAKE_NOTHING, items, n); }
 /* an all-or-nothing take of two items or more: there were not enough */
 static inline void ring_calls_take_short(ring_calls *r) { ring_calls_event(r, &r->c, RING_TAKE_SHORT, NULL, 0); }

@@ -42,7 +42,7 @@ public:
         return stored;
     }
 
-    // The call returns how many of the items were stored, with no reason given why not more.
+    // The call returns how many of the items were stored, with no reason given why no more.
     template <class Call> std::size_t put_some(const uint64_t* items, std::size_t n, Call call) {
         ring_calls_put_all(&rec, items, n);
         std::size_t stored = call();
@@ -75,7 +75,7 @@ public:
     public:
         void item(uint64_t v) { ring_calls_item(rec, v); }
         void items(const uint64_t* v, std::size_t n) { ring_calls_items(rec, v, n); }
-        // with no reason given why not more
+        // with no reason given why no more
         void some_items(const uint64_t* v, std::size_t n) { ring_calls_some_items(rec, v, n); }
         void empty() { ring_calls_empty(rec); }
         // an all-or-nothing take that asked for this many

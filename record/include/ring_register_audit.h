@@ -56,7 +56,7 @@ static inline int ring_register_has(const ring_register_found *found, int least)
     return found->verdict == RING_REGISTER_JUDGED && (int)found->strongest >= least;
 }
 
-/* The first line with which the history lacks the class; 0 if it has it. Of a history that is refused, the line. */
+/* The first line with which the history lacks the class; 0 if it has it. For a history that is refused, the line. */
 static inline uint64_t ring_register_lacks(const ring_register_found *found, int least) {
     if (found->verdict != RING_REGISTER_JUDGED) return found->line;
     return least <= RING_SAFE ? found->not_safe : least == RING_REGULAR ? found->not_regular : least == RING_ATOMIC_BY_READER ? found->not_by_reader : found->not_atomic;

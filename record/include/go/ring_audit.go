@@ -115,8 +115,8 @@ type RingFault struct {
 
 func (f *RingFault) Error() string { return strings.TrimRight(f.Words+"\n"+f.Lines, "\n") }
 
-// RingReport is what audit --calls counts of lawful calls. Inside: the most surely inside at some moment, and the most perhaps inside; Cut: calls
-// are missing after the last line.
+// RingReport is what audit --calls counts in lawful calls. Inside: the most surely inside at some moment, and the most perhaps inside; Cut:
+// calls are missing after the last line.
 type RingReport struct {
 	Calls, Stored, Taken, Full, Empty, Nothing uint64
 	Told                                       bool
@@ -167,7 +167,7 @@ func Judge(head string, r *RingCalls) (RingReport, error) {
 	return RingReport{}, fault
 }
 
-// Of the lawful recordings of all rounds how many calls there were, and how many of them overlapped.
+// How many calls there were in the lawful recordings of all rounds, and how many of them overlapped.
 var ringCounted, ringOverlapped uint64
 
 // Counts the calls. If the first ringAlone of them came one after the other, none overlapping one of the other side, standard error

@@ -27,7 +27,7 @@ import (
 var ringWords = [...]string{"P put", "P close", "C take", "P stored", "P some", "P full", "P short", "P nothing", "P closed",
 	"C item", "C some", "C empty", "C short", "C nothing", "C closed"}
 
-// Of each event its kind and how many numbers it has, its ticket, the numbers.
+// For each event: its kind and how many numbers it has, its ticket, the numbers.
 type ringLog struct {
 	words []uint64
 	used  int
@@ -80,7 +80,7 @@ func (r *RingCalls) Close()              { r.event(&r.p, 1) }
 func (r *RingCalls) Stored()             { r.event(&r.p, 3) }
 func (r *RingCalls) Full()               { r.event(&r.p, 5) }
 
-// StoredOf: of the items offered the first ones were stored, as many as there was room for.
+// StoredOf: the first of the items offered were stored, as many as there was room for.
 func (r *RingCalls) StoredOf(stored, offered uint64) {
 	if stored == 0 {
 		r.Full()
@@ -91,7 +91,7 @@ func (r *RingCalls) StoredOf(stored, offered uint64) {
 	}
 }
 
-// Some: the first `stored` items were stored, with no reason given why not more.
+// Some: the first `stored` items were stored, with no reason given why no more.
 func (r *RingCalls) Some(stored uint64) {
 	if stored == 0 {
 		r.PutNothing()
@@ -100,7 +100,7 @@ func (r *RingCalls) Some(stored uint64) {
 	}
 }
 
-// PutShort: an all-or-nothing put; of two or more items none was stored, as there was not room for all.
+// PutShort: an all-or-nothing put of two or more items; none was stored, as there was not room for all.
 func (r *RingCalls) PutShort() { r.event(&r.p, 6) }
 
 // PutNothing: none was stored, with no reason given.
@@ -123,7 +123,7 @@ func (r *RingCalls) TakeAll(most uint64) {
 func (r *RingCalls) Item(items ...uint64) { r.event(&r.c, 9, items...) }
 func (r *RingCalls) Empty()               { r.event(&r.c, 11) }
 
-// SomeItems: these items, with no reason given why not more.
+// SomeItems: these items, with no reason given why no more.
 func (r *RingCalls) SomeItems(items ...uint64) {
 	if len(items) == 0 {
 		r.TakeNothing()
@@ -132,7 +132,7 @@ func (r *RingCalls) SomeItems(items ...uint64) {
 	}
 }
 
-// TakeShort: an all-or-nothing take; of two or more items there were not enough.
+// TakeShort: an all-or-nothing take of two or more items; there were not enough.
 func (r *RingCalls) TakeShort()   { r.event(&r.c, 12) }
 func (r *RingCalls) TakeNothing() { r.event(&r.c, 13) }
 

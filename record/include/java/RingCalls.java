@@ -83,7 +83,7 @@ public final class RingCalls {
     public void storedOf(int stored, int offered) {
         if (stored == 0) full(); else if (stored == offered) stored(); else one(puts, 3, stored);
     }
-    /** The first `stored` items were stored, with no reason given why not more. */
+    /** The first `stored` items were stored, with no reason given why no more. */
     public void some(int stored) { if (stored == 0) putNothing(); else one(puts, 4, stored); }
     public void full() { begin(puts, 5, 0); }
     /** An all-or-nothing put of two items or more: none was stored, since there was not room for all. */
@@ -98,7 +98,7 @@ public final class RingCalls {
     public void takeAll(int most) { if (most > 1) one(takes, 2, most); else take(); }
     public void item(long item) { one(takes, 9, item); }
     public void items(long[] items, int n) { if (n == 0) empty(); else all(takes, 9, items, n); }
-    /** So many items, with no reason given why not more. */
+    /** So many items, with no reason given why no more. */
     public void someItems(long[] items, int n) { if (n == 0) takeNothing(); else all(takes, 10, items, n); }
     public void empty() { begin(takes, 11, 0); }
     /** An all-or-nothing take of two items or more: there were not enough. */

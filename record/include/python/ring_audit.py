@@ -54,12 +54,12 @@ _Found = _struct("_Found", (_u64, "line against words"), (_u32, "verdict"))
 _State = _struct("_State", (_at, "offered"), (_size, "offered_room"), (_at, "taken"), (_size, "taken_room"),
                  (_size, "offered_first offered_used taken_first taken_used limit"), (_Taken, "last_taken"),
                  (_u64, "line ended_at told_at put_at stored_at"), (_Under, "calls"), (_Counts, "report"), (_bool, "has_ended has_told put_overlaps take_overlaps"))
-# What audit --calls counts of a lawful recording; inside: surely at some moment, and at most.
+# What audit --calls counts in a lawful recording; inside: surely at some moment, and at most.
 Report = collections.namedtuple("Report", "calls stored taken full empty nothing told inside overlapped open")
 _loaded = None
 # The place of the library in dist/, for each machine.
 _FOLDERS = {"x86_64": "", "aarch64": "aarch64-linux/"}
-# Of the lawful recordings of all rounds how many calls there were, and how many of them overlapped.
+# How many calls there were in the lawful recordings of all rounds, and how many of them overlapped.
 _counted = [0, 0]
 
 

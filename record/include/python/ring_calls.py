@@ -66,7 +66,7 @@ class Calls:
         return self._p(3, (stored,) if stored < offered else ()) if stored else self.full()
 
     def some(self, stored):
-        """The first `stored` items were stored, with no reason given why not more."""
+        """The first `stored` items were stored, with no reason given why no more."""
         return self._p(4, (stored,)) if stored else self.put_nothing()
 
     def full(self):
@@ -91,7 +91,7 @@ class Calls:
         return self._c(9, items) if items else self.empty()
 
     def some_items(self, *items):
-        """These items, with no reason given why not more."""
+        """These items, with no reason given why no more."""
         return self._c(10, items) if items else self.take_nothing()
 
     def empty(self):

@@ -83,7 +83,7 @@ pub fn choose(n: u32) -> u32 {
     unsafe { explorer::explore_choose(n) }
 }
 
-/// Tells a value of this run, as of a load; each outcome is printed once. For litmus tests.
+/// Reports a value of this run, such as that of a load; each outcome is printed once. For litmus tests.
 #[inline]
 pub fn outcome(value: u64) {
     // SAFETY: it takes any number.
@@ -129,7 +129,7 @@ impl<'a> PutLog<'a> {
     #[inline(always)] pub fn stored_of(&mut self, stored: usize, offered: usize) {
         if stored == 0 { self.full() } else if stored == offered { self.stored() } else { event(3, &[stored as u64]) }
     }
-    /// The first `stored` of the items were stored, with no reason given why not more.
+    /// The first `stored` of the items were stored, with no reason given why no more.
     #[inline(always)] pub fn some(&mut self, stored: usize) { if stored > 0 { event(4, &[stored as u64]) } else { self.nothing() } }
     /// None was stored: the queue is full.
     #[inline(always)] pub fn full(&mut self) { event(5, &[]) }
@@ -157,7 +157,7 @@ impl<'a> TakeLog<'a> {
     #[inline(always)] pub fn item(&mut self, item: u64) { event(9, &[item]) }
     /// These items were taken, as many as were asked for or inside; none says that the queue is empty.
     #[inline(always)] pub fn items(&mut self, items: &[u64]) { if items.is_empty() { self.empty() } else { event(9, items) } }
-    /// These items were taken, with no reason given why not more.
+    /// These items were taken, with no reason given why no more.
     #[inline(always)] pub fn some(&mut self, items: &[u64]) { if items.is_empty() { self.nothing() } else { event(10, items) } }
     /// None was taken: the queue is empty.
     #[inline(always)] pub fn empty(&mut self) { event(11, &[]) }
