@@ -242,7 +242,7 @@ impl Audit {
     }
 
     // A put that stored `count` items reports that there was no room for one more, or for all that it offered. At its start at most this many were inside
-    // before the items that it stored, and later not more.
+    // before the items that it stored, and later no more.
     fn no_room(&self, kind: Kind, count: u64, put: &Put) -> Verdict {
         let (line, offered) = (put.line, put.offered);
         let before = self.stored - put.taken;

@@ -344,7 +344,7 @@ struct Totals {
     wrong: u64,
     // inputs that exceeded the bounds
     over: u64,
-    // of inputs of at most 4 KiB the most heap, and of larger ones the most per byte; the longest time likewise
+    // for inputs of at most 4 KiB the most heap, for larger ones the most per byte; likewise the longest time
     small_peak: usize,
     small_nanos: i64,
     large_peak: f64,

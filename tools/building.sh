@@ -66,7 +66,7 @@ sources_sum() {
     )
 }
 
-# has_room FOLDER MEGABYTES: whether so much is free where the folder lies; if not, it says so.
+# has_room FOLDER MEGABYTES: whether that much is free where the folder is; if not, it says so.
 has_room() {
     free=$(df -Pk "$1" | awk 'NR == 2 { print int($4 / 1024) }')
     [ "${free:-0}" -lt "$2" ] || return 0
@@ -98,7 +98,7 @@ how_far() {
 }
 
 # build FOLDER LOG COUNT COMMAND..: runs the command in the folder, in a process group of its own, so that an end of this
-# script ends it too, and tells how far it is, of so many crates. Files in $unfinished are removed where it is ended.
+# script ends it too, and reports its progress, out of so many crates. Files in $unfinished are removed where it is ended.
 build() {
     folder=$1
     log=$2

@@ -1,4 +1,4 @@
-/* memory.c: each allocation of ring_open is refused in turn. It returns so, frees what it had, and leaves the handles unchanged;
+/* memory.c: each allocation of ring_open is refused in turn. It reports that, frees what it had, and leaves the handles unchanged;
  * and no other call allocates. Linked with -Wl,--wrap=malloc,--wrap=realloc,--wrap=free. */
 #include <stdio.h>
 #include <stdlib.h>

@@ -23,7 +23,7 @@
  * end are not full fences there: within a call the accesses of the queue have only their own orders, so a put whose index is visible
  * before its cell shows up only in the takes that overlap it.
  *
- * While recording nothing is allocated and nothing locked. If the log of a side is full, the history is cut, for both sides, at the
+* While recording, nothing is allocated and nothing is locked. If the log of a side is full, the history is cut, for both sides, at the
  * ticket of the first event that was not kept: it is a prefix of what happened, and a prefix of a lawful history is lawful. The first
  * line then begins with `cut`, and ring_calls_write prints to stderr whose log was full. It also prints if no call was recorded.
  *

@@ -1,5 +1,5 @@
 /* ring_live.h: records the calls of a queue with one producer and one consumer and audits them as they happen, in a thread of
- * its own and in constant memory: for runs of hours. The verdict is that of the proved audit, `lamport_ring audit
+ * its own and in constant memory: for runs lasting hours. The verdict is that of the proved audit, `lamport_ring audit
  * --calls`, in the same words. C11 with POSIX threads (-std=gnu11), and C++ from C++11; it needs ring_calls.h and ring_audit.h
  * beside it, and the library of the latter.
  *
@@ -409,7 +409,7 @@ static inline int ring_live_end(ring_live *r) {
 /* Prints what audit --calls prints: the report, or the words of the fault. Returns 0 if not everything was written. */
 static inline int ring_live_print(ring_live *r, FILE *out) { return ring_audit_print(&r->audit, out); }
 
-/* Frees the memory, also if it did not begin. */
+/* Frees the memory, even if it did not begin. */
 static inline void ring_live_free(ring_live *r) {
     free(r->p.words);
     free(r->c.words);

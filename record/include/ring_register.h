@@ -19,7 +19,7 @@
  * class that the register has in this run, and the register lacks each class that the recording lacks. The price: a ticket orders
  * operations that the register itself may not order, so a missing fence between operations that do not overlap can go unnoticed.
  *
- * While recording nothing is allocated and nothing locked. If the log of a thread is full, the history is cut, for all threads, at the
+* While recording, nothing is allocated and nothing is locked. If the log of a thread is full, the history is cut, for all threads, at the
  * ticket of the first event that was not kept: it is a prefix of what happened, and a prefix has each class that the whole has. The
  * first line then begins with `cut`, and ring_register_print prints to stderr whose log was full. It also prints if nothing was
  * recorded. */

@@ -26,7 +26,7 @@ enum { RING_SAFE = 1, RING_REGULAR, RING_ATOMIC_BY_READER, RING_ATOMIC };
 
 /* The library's types. An event: 0 a write of the value begins, 1 it ends, 2 a read of the reader begins, 3 it ends with the value. Found:
  * the line that is refused; the first lines with which the history is not safe, not regular, not atomic by reader, not atomic, 0 if it is;
- * its strongest class, 0 if it is not safe; and the verdict. Lines are counted from 1 with that which gives the register. */
+ * its strongest class, 0 if it is not safe; and the verdict. Lines are counted from 1, starting with the one that gives the register. */
 typedef struct { uint32_t kind, reader; uint64_t value; } ring_register_event_line;
 typedef struct {
     uint64_t line, not_safe, not_regular, not_by_reader, not_atomic;
@@ -167,8 +167,8 @@ static inline void ring_register_keep(const ring_register *rec, const char *head
     else fprintf(stderr, "%s: the recording cannot be written\n", name);
 }
 
-/* Whether what a recorder has is of the class, one of RING_SAFE to RING_ATOMIC, or of a stronger one. If not, stderr has what was found, and
- * the recording is kept. If it is, and the history is cut or nothing was recorded, that is reported on stderr. */
+/* Whether what a recorder has is in the class, one of RING_SAFE to RING_ATOMIC, or of a stronger one. If not, stderr has what was found,
+ * and the recording is kept. If it is, and the history is cut or nothing was recorded, that is reported on stderr. */
 static inline int ring_register_lawful(const ring_register *rec, const char *head, int least) {
     const ring_register_found found = ring_register_judged(rec, head);
     const uint64_t line = ring_register_lacks(&found, least);

@@ -167,7 +167,7 @@ GUARDED(and, !TURN && !has_item, TURN && has_item)
 GUARDED(or, !(TURN || has_item), !(!TURN || !has_item))
 GUARDED(choice, TURN ? 0 : !has_item, TURN ? has_item : 0)
 
-/* Those that do not set all back: nothing; all, but once only; all but one count. */
+/* Those that do not reset everything: nothing; everything, but only once; all but one count. */
 static void reset_nothing(void) {}
 static void reset_once(void) {
     static bool is_done;

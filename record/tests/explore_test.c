@@ -154,7 +154,7 @@ static void semaphore_consume(void) {
     }
 }
 
-/* A list of nodes of malloc; the consumer frees them. The bug: before it looks for the next one, and again with that. */
+/* A list of nodes from malloc; the consumer frees them. The bug: before it looks for the next one, and again with that. */
 static bool frees_early;
 typedef struct node { uint64_t item; _Atomic(struct node *) next; } node;
 static node *first, *last;

@@ -1,6 +1,6 @@
 /* guards.c: for record/test: a correct queue of 1 for explore.h, whose condition is written in one of seven ways (-DGUARD=1 to 7). Each side looks whose turn
  * it is, by an acquire, and only then at a plain word that is of the side whose turn it is. gcc's pass `reassoc` makes five of the ways look at that word
- * in any case, which is a data race that the text has not. */
+ * in any case, which is a data race that the text does not have. */
 #include <stdatomic.h>
 #include <stdbool.h>
 #include "explore.h"

@@ -1,7 +1,7 @@
 //! A bounded ring for one producer and one consumer, of up to 64 numbers, whose code is proved down to Lamport's safe bits.
 //! `counter_ring.h` says what is proved. The types here ensure what it requires of its caller: an end is moved and never copied, is called
-//! through `&mut`, and is `Send` and not `Sync`; so no two threads call it at the same time, and it reaches another thread by something that orders their
-//! calls (a spawn, a join, a lock, a channel). The memory is the C library's `malloc`; the library is for Linux on x86-64 and ARM64.
+//! through `&mut`, and is `Send` but not `Sync`; so no two threads call it at the same time, and it reaches another thread by something
+//! that orders their calls (a spawn, a join, a lock, a channel). The memory is the C library's `malloc`; the library is for Linux on x86-64 and ARM64.
 //!
 //! ```no_run
 //! let (mut putter, mut taker) = counter_ring::open(counter_ring::Shape::of(64)).unwrap();
@@ -131,7 +131,7 @@ pub enum TakeAll {
 }
 
 /// The end that puts. If it is dropped, the ring stays open: once empty, takes return `Empty`, unless [`close`](Putter::close)
-/// was called before. It is `Send` and not `Sync`:
+/// was called before. It is `Send` but not `Sync`:
 ///
 /// ```compile_fail
 /// fn is_sync<T: Sync>() {}
@@ -139,7 +139,7 @@ pub enum TakeAll {
 /// ```
 pub struct Putter(Handle, PhantomData<*mut ()>);
 
-/// The end that takes. It is `Send` and not `Sync`:
+/// The end that takes. It is `Send` but not `Sync`:
 ///
 /// ```compile_fail
 /// fn is_sync<T: Sync>() {}

@@ -11,13 +11,13 @@ package main
 // file in the environment, the recording is written there, for record/shrink and for the page. Judge counts, too, what a lawful
 // one has.
 //
-// It is linked with libring_audit.a, of dist/ (x86-64) or dist/aarch64-linux/ (ARM64), which lies beside this file, that for ARM64 in a folder
-// arm64 there, or where the environment says: CGO_LDFLAGS=-L/path/of/dist go test. As a file of a test cannot have cgo, a package whose own
-// files should not need the library keeps this file and ring_calls.go in a package that its tests alone import.
+// It is linked with libring_audit.a, of dist/ (x86-64) or dist/aarch64-linux/ (ARM64), which lies beside this file, the one for ARM64 in a
+// folder arm64 there, or where the environment says: CGO_LDFLAGS=-L/path/of/dist go test. As a test file cannot use cgo, a package whose
+// own files should not need the library keeps this file and ring_calls.go in a package that its tests alone import.
 //
-// The library is proved. This file is not; record/test tests it. It keeps what is owed to the library, and not checked by that:
+// The library is proved. This file is not; record/test tests it. It ensures what the library requires and does not check:
 //   - The state is all 0, but for its two lists, before ring_audit_begin; then the library alone changes it, and no copy is made.
-//   - Each list has as many slots as is said, and nothing else touches them: they are memory of C, from calloc up to free. No
+//   - Each list has as many slots as stated, and nothing else touches them: they are memory of C, from calloc up to free. No
 //     pointer is null, even if it points to no numbers. What Go lends has no pointers in it, and the library keeps none of it.
 //   - One call at a time on one state: each has a state of its own.
 
@@ -148,7 +148,7 @@ func Lawful(head string, r *RingCalls) error {
 	return err
 }
 
-// Judge is Lawful, and what is counted of a lawful recording.
+// Judge is Lawful, and returns what is counted in a lawful recording.
 func Judge(head string, r *RingCalls) (RingReport, error) {
 	report, fault := r.judge(head)
 	if fault == nil {
@@ -296,7 +296,7 @@ func ringCapacity(head string) ([]uint64, bool) {
 	return numbers, words[0] == "queue"
 }
 
-// Room for those items that are inside at most, with those that a put offers, and for those taken last.
+// Room for the most items inside, with those that a put offers, and for those taken last.
 func (r *RingCalls) room(capacity []uint64) (offered, taken uint64) {
 	put, take := uint64(0), uint64(1)
 	events := r.events()

@@ -10,7 +10,7 @@ package main
 //
 // Why there are no false alarms: each start takes the next ticket of one counter before the call, each end after it, so an interval
 // can only get wider. Atomic operations of Go are sequentially consistent: if the ticket of an end is smaller than that of a start, the one
-// call happens before the other, and a right queue has to respect that. All other calls overlap in the recording. While recording nothing
+// call happens before the other, and a correct queue has to respect that. All other calls overlap in the recording. While recording nothing
 // is allocated and nothing locked; if the log of a side is full the history is cut there, for both sides: its first line begins
 // with `cut`, and Write prints to standard error whose log was full, or that no call was recorded.
 

@@ -16,8 +16,8 @@ import java.util.concurrent.atomic.AtomicLong;
  *
  * Why there are no false alarms: each start takes the next ticket of one counter before the call, each end after it, so an
  * interval can only get wider. getAndIncrement is sequentially consistent: if the ticket of an end is smaller than that of a start, the one
- * call happens before the other, and a right queue has to respect that. All other calls overlap in the recording. While recording nothing
- * is allocated (but by the boxing of your own items) and nothing locked; if the log of a side is full the history is cut there, for
+ * call happens before the other, and a correct queue has to respect that. All other calls overlap in the recording. While recording nothing
+ * is allocated (except by the boxing of your own items) and nothing locked; if the log of a side is full the history is cut there, for
  * both sides: its first line begins with {@code cut}, and write prints to System.err whose log was full, or that no call was recorded.
  * Items are longs, written without a sign: -1 is 18446744073709551615.
  */
@@ -25,7 +25,7 @@ public final class RingCalls {
     private static final String[] WORDS = { "P put", "P close", "C take", "P stored", "P some", "P full", "P short", "P nothing",
         "P closed", "C item", "C some", "C empty", "C short", "C nothing", "C closed" };
 
-    /** Of each event its kind and how many numbers it has, its ticket, the numbers. */
+    /** For each event: its kind and how many numbers it has, its ticket, the numbers. */
     private static final class Log {
         final long[] words;
         int used;
@@ -79,7 +79,7 @@ public final class RingCalls {
     public void putAll(long[] items, int n) { all(puts, 0, items, n); }
     public void close() { begin(puts, 1, 0); }
     public void stored() { begin(puts, 3, 0); }
-    /** Of the items offered the first ones were stored, as many as there was room for. */
+    /** The first of the items offered were stored, as many as there was room for. */
     public void storedOf(int stored, int offered) {
         if (stored == 0) full(); else if (stored == offered) stored(); else one(puts, 3, stored);
     }
@@ -98,7 +98,7 @@ public final class RingCalls {
     public void takeAll(int most) { if (most > 1) one(takes, 2, most); else take(); }
     public void item(long item) { one(takes, 9, item); }
     public void items(long[] items, int n) { if (n == 0) empty(); else all(takes, 9, items, n); }
-    /** So many items, with no reason given why no more. */
+/** These items, with no reason given why no more. */
     public void someItems(long[] items, int n) { if (n == 0) takeNothing(); else all(takes, 10, items, n); }
     public void empty() { begin(takes, 11, 0); }
     /** An all-or-nothing take of two items or more: there were not enough. */

@@ -40,18 +40,18 @@ mod explorer {
 }
 
 /// Explores a test, prints what was found and ends the program with its status: 0 all that was tried is lawful; 2 it cannot explore, as
-/// standard error says; 3 a fault, a data race or a use after free; 4 both sides wait forever, a side goes on for ever, or it crashed.
+/// standard error says; 3 a fault, a data race or a use after free; 4 both sides wait forever, a side runs forever, or it crashed.
 ///
-/// `head` is the first line of a recording, as `"queue 2"`. `make` makes the two ends of the queue, before each run: for a queue that both sides
-/// share, two clones of an `Arc`. It also sets back the statics that the sides change. `produce` and `consume` are the two sides.
+/// `head` is the first line of a recording, such as `"queue 2"`. `make` makes the two ends of the queue, before each run: for a queue that
+/// both sides share, two clones of an `Arc`. It also resets the statics that the sides change. `produce` and `consume` are the two sides.
 ///
-/// What `make` and a run allocate is gone at the next run, and forgotten, not dropped. So a side that is to drop its end takes it out of an
-/// `Option`, and a static that allocates at its first use, as a `LazyLock`, is used once before this is called.
+/// What `make` and a run allocate is gone at the next run: forgotten, not dropped. So a side that is to drop its end takes it out of an
+/// `Option`, and a static that allocates at its first use, such as a `LazyLock`, is used once before this is called.
 pub fn explore<P, C>(head: &str, make: impl Fn() -> (P, C), produce: impl Fn(&mut P, &mut PutLog), consume: impl Fn(&mut C, &mut TakeLog)) -> ! {
     exit(explore_status(head, make, produce, consume))
 }
 
-/// As [`explore`], but returns the status, for a program that explores several tests.
+/// Like [`explore`], but returns the status, for a program that explores several tests.
 pub fn explore_status<P, C>(head: &str, make: impl Fn() -> (P, C), produce: impl Fn(&mut P, &mut PutLog), consume: impl Fn(&mut C, &mut TakeLog)) -> i32 {
     let head = CString::new(head).expect("the first line of a recording has no zero byte");
     let test: Box<dyn Test + '_> = Box::new(TestOf { make, produce, consume, producer: None, consumer: None });
@@ -90,7 +90,7 @@ pub fn outcome(value: u64) {
     unsafe { explorer::explore_outcome(value) }
 }
 
-/// As [`outcome`], of the last value that a word of this run has.
+/// Like [`outcome`], for the last value that a word of this run has.
 #[inline]
 pub fn outcome_at_end(word: &AtomicU64) {
     // SAFETY: it is read before the next run makes its own.

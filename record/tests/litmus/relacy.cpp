@@ -1,6 +1,6 @@
 // relacy.cpp: for record/test: three litmus tests under Relacy's full search (Debian: relacy-dev), to compare with explore: -DTEST=1 to 3, store
 // buffering by release and acquire, with one fence of seq_cst, and with two. (Relacy tries no order of modification but that of the execution, so it
-// misses outcomes of others of named.txt, as 2+2W.) Prints the outcomes, in the words of litmus.c.
+// misses outcomes of others in named.txt, such as 2+2W.) Prints the outcomes, in the words of litmus.c.
 #include <relacy/relacy.hpp>
 #include <cstdio>
 #include <cstring>

@@ -1,4 +1,4 @@
-//! A list of boxes, of which the first was taken already. `--cfg bug` drops not that one but the next, whose item is taken: the list still has it.
+//! A list of boxes, of which the first was taken already. `--cfg bug` drops the next one instead of it, whose item is taken: the list still has it.
 use explore::explore;
 use std::sync::atomic::{AtomicPtr, Ordering::*};
 use std::sync::Arc;

@@ -1,4 +1,4 @@
-//! What a test may use of Rust's std, by the word that the program is given: what is seen, what is played in its own words, what ends the test.
+//! What a test may use of Rust's std, by the word that the program is given: what is seen, what is modelled, what ends the test.
 use explore::{explore, explore_status};
 use std::cell::Cell;
 use std::collections::VecDeque;
@@ -9,7 +9,7 @@ use std::sync::{Arc, Barrier, Condvar, Mutex, Once, RwLock};
 use std::thread::{self, park, park_timeout, sleep, yield_now, Thread};
 use std::time::Duration;
 
-/// A ring whose slots are atomic, and what the sides use besides.
+/// A ring whose slots are atomic, and what else the sides use.
 struct Ring {
     head: AtomicUsize,
     tail: AtomicUsize,

@@ -1,6 +1,6 @@
 /* judge.c: judge FILE..: judges each recording in process: line by line, with the recorder's names, and as the logs of a recorder, alone and
- * after others. For each it prints what audit --calls prints of it, and an empty line; ring_audit_lawful prints its own to stderr. Status
- * 1 if they differ, 2 if a file is not a recording. As C11 and as C++11. */
+ * after others. For each it prints what audit --calls prints about it, and an empty line; ring_audit_lawful prints its own to stderr.
+ * Status 1 if they differ, 2 if a file is not a recording. As C11 and as C++11. */
 #include "ring_audit.h"
 
 /* The lines of a recording except the first: their kinds, and the positions of their numbers, with the end of the last. */

@@ -1,5 +1,5 @@
 // judge.go: judge FILE..: judges each recording in process, as the logs of a recorder that makes it anew. For each it prints what
-// audit --calls prints of it, and an empty line; the report of a fault is on stderr. It panics if what was made is another
+// audit --calls prints about it, and an empty line; the report of a fault is on stderr. It panics if what was made is another
 // one.
 package main
 

@@ -1,5 +1,5 @@
 //! judge.rs: judge FILE..: judges each recording in process: line by line, by kinds and by names, and as the logs of a recorder
-//! that makes it anew. For each it prints what audit --calls prints of it, and an empty line; the report of a fault is on
+//! that makes it anew. For each it prints what audit --calls prints about it, and an empty line; the report of a fault is on
 //! stderr. It panics if they differ.
 #[path = "../../include/rust/ring_audit.rs"]
 mod ring_audit;

@@ -1,7 +1,7 @@
 /* register_unit.c: a unit test of registers. One thread writes and two read, in many rounds, and the history of each round is judged: a word
  * for each reader is regular, one word for both is atomic, and a value in two halves is not safe, which the test checks too.
- * register_unit FILE..: judges recordings, which it replays on a recorder: for each it prints what audit --register prints of it, but for the
- * reasons, and an empty line. As C11 and as C++11. */
+ * register_unit FILE..: judges recordings, which it replays on a recorder: for each it prints what audit --register prints about it, except
+ * the reasons, and an empty line. As C11 and as C++11. */
 #undef NDEBUG
 #include <assert.h>
 #include <pthread.h>
