@@ -3,10 +3,10 @@
 //!
 //! - Of a history with one more event: `lawful_by_one_more`, `open_changes`, `subhistory_changes`. For code that maintains
 //!   something event by event, as `uses::by_hand` does.
-//! - Of intervals: `open_is_by_interval`, `held_is_by_interval`, `overlap_is_by_interval`, `flicker_is_by_interval`. For
+//! - About intervals: `open_is_by_interval`, `held_is_by_interval`, `overlap_is_by_interval`, `flicker_is_by_interval`. For
 //!   statements about a history that do not mention the functions that a proof computes with.
-//! - Of a side's own events and accesses: `open_from_own`, `made_leave_none_open`. For code with a machine that makes them.
-//! - Of verdicts: `one_verdict`, `fault_breaks`. For code that reads a verdict.
+//! - About a side's own events and accesses: `open_from_own`, `made_leave_none_open`. For code with a machine that makes them.
+//! - About verdicts: `one_verdict`, `fault_breaks`. For code that reads a verdict.
 //!
 //! Proofs cite the lemmas of the same names, which `proofs/LawLemmas.antt` has, with some that only proofs need.
 ghost use Rattle.bits_core.specs.Laws.{BeginningIsLawful, EmptyIsLawful, FaultBreaks, FlickerIsByInterval, HeldIsByInterval, LawfulByOneMore, MadeLeaveNoneOpen, OneVerdict, OpenChanges, OpenFromOwn, OpenIsByInterval, OverlapIsByInterval, OverlapIsDecidable, SubhistoryChanges};

@@ -28,11 +28,11 @@ IsFaultSoFar offered last None w tally capacity events = Remembers offered last 
 IsFaultSoFar offered last (Some (Lawful report)) w tally capacity events = ⊥
 IsFaultSoFar offered last (Some fault) w tally capacity events = IsFoundWithin w.limit capacity events fault
 
--- these events were heard, of a queue of this capacity
+-- these events were heard, for a queue of this capacity
 abbrev pub HasHeard : {S O T N B : Type 0} → (offered : O → List Offered) → (last : T → List Taken) → Hearing S O T N B → Capacity → List Event → Type 0
 HasHeard offered last hearing capacity events = IsFaultSoFar offered last hearing.fault hearing.witness hearing.tally capacity events
 
--- lines were heard, a first one, of a recording that lacks calls or not, and others
+-- lines were heard, a first one, which says whether the recording lacks calls, and others
 abbrev pub HeardLines : {S O T N B : Type 0} → (offered : O → List Offered) → (last : T → List Taken) → Hearing S O T N B → Bool → List Line → Type 0
 HeardLines offered last hearing is_cut lines = (first : List ℕ) × (further : List Line) × (lines ≡ line (first_word is_cut) first ∷ further)
     × (hearing.begun ≡ begun_behind Nothing further) × HasHeard offered last hearing (capacity_told first) (events_told Nothing further)

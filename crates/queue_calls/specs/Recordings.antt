@@ -38,7 +38,7 @@ lines_text lines = flat_map text_of lines
 abbrev pub IsOfFormat : Line → Type 0
 IsOfFormat l = Allows l.word l.numbers × AreSmall l.numbers
 
--- the word of the first line, of a recording that lacks the later calls or not
+-- the word of the first line, by whether the recording lacks the later calls
 abbrev pub first_word : Bool → Word
 first_word true = word.Cut
 first_word false = word.Queue

@@ -9,7 +9,7 @@ use crate::turns::{PutTurn, TakeTurn};
 use std::alloc::Allocator;
 use std::collections::VecDeque;
 
-/// An auditor of a recorded history of calls of a first-in first-out queue that can be closed, of one producer and one
+/// An auditor of a recorded history of calls of a first-in first-out queue that can be closed, with one producer and one
 /// consumer, whatever queue it is: bounded or not, with its capacity known exactly or as a range.
 ///
 /// It reads the history event by event. It accepts an event if the history up to and including it is linearizable, and

@@ -38,7 +38,7 @@ pub(crate) struct Witness<S: Storage> {
 }
 
 impl<S: Storage> Witness<S> {
-    // Nothing, of a queue whose capacity is not known yet. This many of the items taken last are kept.
+    // Nothing, for a queue whose capacity is not known yet. This many of the items taken last are kept.
     pub fn new(offered: S::Offered, taken: S::Taken, limit: usize) -> Witness<S>
         ensures limit { result.limit ≡ limit }
         ensures rooms { (S.Offered.room result.auditor.inside.list ≡ S.Offered.room offered) ×

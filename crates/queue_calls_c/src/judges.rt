@@ -39,7 +39,7 @@ pub enum JudgeFault {
     TooFewSlots(u64),
 }
 
-// The line at which a class is lost, with one more event, of this line: after it the history has the class or not.
+// The line at which a class is lost, with one more event, on this line: after it the history has the class or not.
 fn lost_at(known: u64, has: bool, line: u64) -> u64
     ensures { (class : Class) (r : Register) (before : List RegisterEvent) (e : RegisterEvent) →
         length before + 2 ≡ line → (IsTrue has ↔ HasClass class r (e ∷ reverse before)) →
@@ -67,7 +67,7 @@ impl LostClasses {
         }
     }
 
-    // The same after the last event that an auditor has heard, of this line.
+    // The same after the last event that an auditor has heard, on this line.
     fn after<W: Fifo<u64>, R: Fifo<ReaderState>>(
         self,
         auditor: &RegisterAuditor<W, R>,
@@ -94,7 +94,7 @@ impl LostClasses {
     }
 }
 
-// The refusal of an event that an auditor refuses, of this line. (No history has as many writes as a usize counts.)
+// The refusal of an event that an auditor refuses, on this line. (No history has as many writes as a usize counts.)
 fn refusal_of(fault: RegisterFault, line: u64) -> JudgeFault
     ensures { result ≡ refusal_of fault line }
 {

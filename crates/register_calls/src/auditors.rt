@@ -41,7 +41,7 @@ pub(crate) struct FoundWrites {
     pub(crate) of_all: Option<usize>,
 }
 
-/// An auditor of a recorded history of one register, of one writer and any number of readers.
+/// An auditor of a recorded history of one register, with one writer and any number of readers.
 ///
 /// It reads the history event by event, and returns the strongest class that the history has so far. It never revises a choice: it
 /// gives each read the least write that the read may be of and that is not before one given to an earlier read, and no other

@@ -46,7 +46,7 @@ module _ (shape : Shape) (h : List Event) (lawful : IsLawful shape h) (b : Bit) 
   within : start < length h
   within = slice_get_within h start read.access.event read.access.at_start
 
-  -- a write that overlaps the read is none of them
+  -- a write that overlaps the read is not one of them
   overlapping_number : (x : Bool) (start' stop' : ℕ) → IsOverlapping h b start stop x start' stop' → had_ended ≤ begun (write_of b) h start'
   overlapping_number x start' stop' o =
       ended_le (write_of b) (writer b) h start' start (elim (cases_lt stop' start) [ inl l ↦ absurd (o.1.1 l) | inr l ↦ omega (arith, o.0.ends) ])

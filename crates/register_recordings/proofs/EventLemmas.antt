@@ -14,7 +14,7 @@ use Rattle.register_recordings.specs.Recordings.{LeavesTurn}
 use Rattle.register_recordings.specs.Reading.{HasReadEvents, HasReadLineEvent}
 use Rattle.register_recordings.proofs.MissLemmas.{one_more}
 
--- the first event that is out of turn is that of more events
+-- the first event that is out of turn stays the first one after more events
 leaves_still : (r : Register) (events : List RegisterEvent) (e : RegisterEvent) (number : ℕ) → LeavesTurn r events number → LeavesTurn r (events ++ e ∷ []) number
 leaves_still r events e number is = record {
   before = is.before;

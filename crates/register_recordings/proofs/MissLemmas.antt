@@ -18,7 +18,7 @@ use Rattle.register_recordings.specs.Misses.{AreMisses, IsMissFound, IsMissOf}
 pub one_more : (events : List RegisterEvent) (e : RegisterEvent) → reverse (events ++ e ∷ []) ≡ e ∷ reverse events
 one_more events e = reverse-append events (e ∷ [])
 
--- the first miss of events is that of more
+-- the first miss of events stays their first miss after more
 first_stays : (c : Class) (r : Register) (events : List RegisterEvent) (e : RegisterEvent) (p : ℕ) → IsFirstMiss c r events p → IsFirstMiss c r (events ++ e ∷ []) p
 first_stays c r events e p miss =
     let within : p < length events = miss.within in
@@ -37,7 +37,7 @@ first_comes c r events e had lacks = record {
       (subst (λ (h : List RegisterEvent). ¬ HasClass c r h) (sym (one_more events e)) lacks);
 }
 
--- a miss that was found is that of more events
+-- a miss that was found stays one after more events
 pub miss_stays : (c : Class) (r : Register) (events : List RegisterEvent) (e : RegisterEvent) (miss : RegisterMiss) → IsMissFound c r events miss → IsMissFound c r (events ++ e ∷ []) miss
 miss_stays c r events e miss is = record {
   before = is.before;

@@ -176,7 +176,7 @@ impl<W: Fifo<u64>, R: Fifo<ReaderState>, P: Fifo<usize>, C: Fifo<Chain>> JudgedL
         }
     }
 
-    // Records the classes that the history would lack with this event, of this line.
+    // Records the classes that the history would lack with this event, on this line.
     fn note(&mut self, line: u64, event: RegisterEvent)
         ensures misses { (before : List RegisterEvent) → length before + 2 ≡ line →
             RemembersRegister W.items R.items P.items C.items self.old.witness (reverse before) →
@@ -194,7 +194,7 @@ impl<W: Fifo<u64>, R: Fifo<ReaderState>, P: Fifo<usize>, C: Fifo<Chain>> JudgedL
         self.misses = self.misses_with(line, reader, value);
     }
 
-    // The misses with the end of a read, of this line, if those before it are known.
+    // The misses with the end of a read, on this line, if those before it are known.
     fn misses_with(&self, line: u64, reader: usize, value: u64) -> Misses
         ensures { (before : List RegisterEvent) → length before + 2 ≡ line →
             RemembersRegister W.items R.items P.items C.items self.now.witness (reverse before) →
@@ -220,7 +220,7 @@ impl<W: Fifo<u64>, R: Fifo<ReaderState>, P: Fifo<usize>, C: Fifo<Chain>> JudgedL
         }
     }
 
-    // The miss of a class with the end of a read, of this line, if that before it is known.
+    // The miss of a class with the end of a read, on this line, if that before it is known.
     fn miss_with(
         &self,
         class: Class,

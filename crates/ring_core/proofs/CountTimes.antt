@@ -453,7 +453,7 @@ ended_from_look most s shape c (l ∷ looks) behind fits is p i =
 
 -- ---- the count writes of a whole program
 
--- of these no more have begun, after any number of the side's events, than of the spans' count writes
+-- no more of these have begun, after any number of the side's events, than of the spans' count writes
 pub count_writes_begun :
     (most : ℕ) (s : Side) (shape : Shape) (looks : List Look) (behind : List Made) → most < modulus_of shape → AllPassing most looks → (i : ℕ) →
     tally (sizes_in looks) (unary.begun_writes (numbered_of (counted_in shape looks)) (bit_writes s (events_of s (look_accesses s shape first_count looks behind)) i)) ≤

@@ -75,7 +75,7 @@ made_end a b calls wanted seen again opened same stands has = record {
 
 -- ---- the scans
 
--- of a count that shows items, as many are taken as requested and shown
+-- if a count shows items, as many are taken as are requested and shown
 pub record ShownOf (shape : Shape) (seen count wanted most : ℕ) : Type 0 where
   pub shows : ShowsItem shape seen count
   pub some : 1 ≤ most

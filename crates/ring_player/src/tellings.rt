@@ -20,7 +20,7 @@ use std::alloc::{AllocError, Allocator};
 
 /// The items that a take of a play took: `count` of the script's, after the `before` taken earlier.
 ///
-/// For example, of a script whose items are 5 and 6, `TakenItems { before: 1, count: 1 }` are the item 6.
+/// For example, for a script whose items are 5 and 6, `TakenItems { before: 1, count: 1 }` are the item 6.
 #[derive(Clone, Copy, PartialEq, Eq, Debug)]
 pub struct TakenItems {
     pub before: usize,

@@ -212,7 +212,7 @@ fn audit<A: Allocator>(
     }
 }
 
-// The word of the first line, of a recording that lacks the later calls or not.
+// The word of the first line, by whether the recording lacks the later calls.
 fn first_word(is_cut: bool) -> Word
     ensures { result ≡ first_word is_cut }
 {

@@ -56,7 +56,7 @@ pub record IsFirstStray (IsOfForm : List ℕ → Type 0) (text : List ℕ) (plac
 
 -- ---- faults
 
--- the first fault of the bytes; out of memory is none of these
+-- the first fault of the bytes; out of memory is not one of these
 abbrev pub IsScriptFault : List ℕ → ScriptFault → Type 0
 IsScriptFault bytes fault.NotJson = (value : Data) → ¬ IsJson bytes value
 IsScriptFault bytes fault.NotObject = (value : Data) × IsJson bytes value × ((members : Members) → value ≢ object members)

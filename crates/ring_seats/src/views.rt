@@ -8,7 +8,7 @@ use std::marker::{Brand, PhantomData};
 
 /// What the two loads of a read found. It occurs only in contracts: no value of it is made.
 ///
-/// For example, of a bit that is being written the first may have found 0 and the second 1: then the oracle is
+/// For example, for a bit that is being written the first may have found 0 and the second 1: then the oracle is
 /// asked.
 pub struct Loads {
     /// What the first load found, when the read began.

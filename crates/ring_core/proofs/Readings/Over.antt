@@ -41,7 +41,7 @@ module _ {S X : Type 0} (events : S → X → ℕ) (after : S → X → S) where
       by_test more true e = record { rest = more.rest; parts = ap (λ l. x ∷ l) more.parts; within = omega (arith, more.within, leb-true (events s x) t e) }
       by_test more false e = record { rest = x ∷ xs; parts = refl; within = omega arith }
 
-  -- of calls that start with these, which have at most t events, these are over
+  -- if calls start with these, which have at most t events, these are over
   behind : (s : S) (xs ys : List X) (t : ℕ) → total s xs ≤ t → over events after s (xs ++ ys) t ≡ xs ++ over events after (state s xs) ys (t - total s xs)
   behind s [] ys t l = let whole : t ≡ t - 0 = omega arith in ap (λ n. over events after s ys n) whole
   behind s (x ∷ xs) ys t l =
