@@ -48,7 +48,7 @@ OpenChanges = (s : Side) (h : List Event) (e : Event) → open_access s (h ++ e 
 abbrev pub OneVerdict : Type 0
 OneVerdict = (shape : Shape) (h : List Event) (v w : Verdict) → IsVerdict shape h v → IsVerdict shape h w → v ≡ w
 
--- the events before the first fault are lawful, and with it not
+-- the events before the first fault are lawful, and with it they are not
 abbrev pub FaultBreaks : Type 0
 FaultBreaks = (shape : Shape) (h : List Event) (place : ℕ) (kind : Kind) → IsFirstFault shape h place kind → IsLawful shape (take place h) × (IsLawful shape (take (suc place) h) → ⊥)
 

@@ -1,10 +1,10 @@
 //! The laws of histories that the layers above use. Each is the contract of a function that does
 //! nothing: a body calls it to have the statement in its proof.
 //!
-//! - Of a history with one more event: `lawful_by_one_more`, `open_changes`, `subhistory_changes`. For code that maintains
-//!   something event by event, as `uses::by_hand` does.
-//! - About intervals: `open_is_by_interval`, `held_is_by_interval`, `overlap_is_by_interval`, `flicker_is_by_interval`. For
-//!   statements about a history that do not mention the functions that a proof computes with.
+//! - About a history with one more event: `lawful_by_one_more`, `open_changes`, `subhistory_changes`. For code that
+//!   maintains something event by event, as `uses::by_hand` does.
+//! - About intervals: `open_is_by_interval`, `held_is_by_interval`, `overlap_is_by_interval`, `flicker_is_by_interval`.
+//!   For statements about a history that do not mention the functions that a proof computes with.
 //! - About a side's own events and accesses: `open_from_own`, `made_leave_none_open`. For code with a machine that makes them.
 //! - About verdicts: `one_verdict`, `fault_breaks`. For code that reads a verdict.
 //!

@@ -1,4 +1,4 @@
-//! First-in first-out lists, of an allocator or in caller-supplied slots.
+//! First-in first-out lists, in memory of an allocator or in caller-supplied slots.
 use std::alloc::{AllocError, Allocator};
 use std::collections::VecDeque;
 

@@ -54,7 +54,7 @@ abbrev pub first_stage : NearMiss → put.Stage
 first_stage CountBeforeCell = put.TheVariants.Counting
 first_stage _ = put.TheVariants.Storing 0 0
 
--- how a put ends that has written its items: it has stored this many, if it wrote its count before
+-- how a put that has written its items ends: it has stored this many, if it wrote its count before
 abbrev pub items_written_told : NearMiss → (storing : ℕ) → Option (CallEvent ℕ ℕ)
 items_written_told CountBeforeCell storing = Some (PutStored storing)
 items_written_told _ storing = None
@@ -64,7 +64,7 @@ abbrev pub count_written_told : NearMiss → (storing : ℕ) → Option (CallEve
 count_written_told CountBeforeCell storing = None
 count_written_told _ storing = Some (PutStored storing)
 
--- The end of a call with a read of a bit with this value: of the close bit as above; a read of a count ends a call only
+-- The end of a call with a read of a bit with this value: for the close bit, as above; a read of a count ends a call only
 -- if it is 1, for a take that finds no item, or for a put that finds no room
 abbrev pub IsToldByRead : NearMiss → Bit → Bool → Option (CallEvent ℕ ℕ) → Type 0
 IsToldByRead miss X v told = told ≡ look_told miss v

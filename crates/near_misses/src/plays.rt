@@ -278,10 +278,10 @@ fn run_first<E: Store<Event>, T: Store<NearCall>, I: Store<u64>>(
     Ok(())
 }
 
-/// Plays a script by a near miss: one step for each letter of its schedule, by a side that has not stopped. The history of the bits is
-/// lawful, as a memory of safe bits makes it, and each read that a write overlaps has the oracle's next answer. Each start and end of a
-/// call is recorded at the event that is its first or its last, and the items of a take are those of the digits that it read; nothing
-/// more is guaranteed about the items put and taken.
+/// Plays a script by a near miss: one step for each letter of its schedule, by a side that has not stopped. The history
+/// of the bits is lawful, as a memory of safe bits makes it, and each read that a write overlaps has the oracle's next
+/// answer. Each start and end of a call is recorded at the event that is its first or its last, and the items of a take
+/// are those of the digits that it read; nothing more is guaranteed about the items put and taken.
 ///
 /// `OutOfMemory`: memory ran out.
 ///

@@ -1,4 +1,4 @@
--- What an auditor decides of an event, from what it keeps alone.
+-- What an auditor decides about an event, from what it keeps alone.
 use Rattle.std.specs.Prelude.{◌≡◌, ℕ, ◌+◌, ◌-◌, ◌<◌, nat_lt, nat_le, ◌&&◌, Bool, false, if◌then◌else◌, List, length, Option, Some, None, Result, MatchResult}
 use Rattle.queue_calls.specs.Queue.{Capacity}
 use Rattle.queue_calls.specs.Calls.{Event, PutBegin, PutStored, PutFull, PutShort, PutNothing, TakeItems, TakeEmpty, TakeShort, TakeNothing, short_of}

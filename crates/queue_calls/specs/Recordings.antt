@@ -65,7 +65,7 @@ stored_told (begun.Put offered) [] = offered
 stored_told (begun.Put offered) (count ∷ more) = if nat_lt count offered then count else 0
 stored_told _ _ = 0
 
--- how many a put stored that does not say whether these are all
+-- how many items were stored by a put that does not say whether these are all
 abbrev pub some_told : List ℕ → ℕ
 some_told [] = 0
 some_told (count ∷ more) = count

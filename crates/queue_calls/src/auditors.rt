@@ -9,8 +9,8 @@ use crate::turns::{PutTurn, TakeTurn};
 use std::alloc::Allocator;
 use std::collections::VecDeque;
 
-/// An auditor of a recorded history of calls of a first-in first-out queue that can be closed, with one producer and one
-/// consumer, whatever queue it is: bounded or not, with its capacity known exactly or as a range.
+/// An auditor of a recorded history of calls of a first-in first-out queue that can be closed, with one producer and
+/// one consumer, whatever queue it is: bounded or not, with its capacity known exactly or as a range.
 ///
 /// It reads the history event by event. It accepts an event if the history up to and including it is linearizable, and
 /// refuses it otherwise, so the first event that it refuses is the first place at which the history is not
@@ -157,7 +157,7 @@ impl<Q: Inside> CallAuditor<Q> {
         self.feed_at(0, event)
     }
 
-    // As `feed`, for an event of this line, which is kept with each item that the event offers.
+    // Like `feed`, for an event on this line, which is kept with each item that the event offers.
     pub(crate) fn feed_at(&mut self, line: u64, event: Event<'_>) -> Result<(), Fault>
         ensures decides { Decides Q.items Q.room self.old (told event.entry) result self.new }
         ensures room { Q.room self.new.inside ≡ Q.room self.old.inside }

@@ -1,4 +1,4 @@
-//! What an auditor knows about the calls under way, and of how many items may be inside.
+//! What an auditor knows about the calls under way, and about how many items may be inside.
 ghost use Rattle.std.specs.Prelude.{◌≡◌, ◌↔◌, IsTrue, length};
 
 use crate::auditors::CallAuditor;

@@ -32,7 +32,7 @@ pub trait Inside: Drop {
         ensures items { result ≡ length (items self.now) }
         ensures entries { result ≡ length (entries self.now) };
 
-    /// The item of this place, counted from the front; `None` past the end.
+    /// The item at this place, counted from the front; `None` past the end.
     fn item(&self, index: usize) -> Option<u64>
         ensures { result ≡ slice_get (items self.now) index };
 

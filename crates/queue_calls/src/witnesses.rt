@@ -194,7 +194,7 @@ impl<S: Storage> Witness<S> {
         }
     }
 
-    // What contradicts an event of this line that comes in turn, and at which the history is not linearizable.
+    // What contradicts an event on this line that comes in turn, and at which the history is not linearizable.
     pub fn cause(&self, line: u64, event: Event<'_>) -> Cause
         ensures { (capacity : queues.Capacity) (events : List calls.Event) →
             Remembers S.Offered.items S.Taken.items self.now capacity events → length events + 2 ≡ line →
@@ -393,7 +393,7 @@ impl<S: Storage> Witness<S> {
         None
     }
 
-    // The cause for a take that took the next `count` items, and says why they are not more, or not.
+    // The cause for a take that took the next `count` items, and may say why they are not more.
     fn fewer_cause(&self, count: usize, why: bool) -> Cause
         ensures { (capacity : queues.Capacity) (events : List calls.Event) (cause : Cause) →
             Remembers S.Offered.items S.Taken.items self.now capacity events → (n : ℕ) →

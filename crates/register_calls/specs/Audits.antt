@@ -91,9 +91,9 @@ own_lows readers i = option_map (λ r. r.own_low) (reader_at readers i).reading
 abbrev pub own_floors : List ReaderState → ℕ → ℕ
 own_floors readers i = (reader_at readers i).own
 
--- What is kept of a history: the values of the writes from a number on, before which no read under way, and none that begins later, can be;
--- how many have begun, and whether the last one is under way; for each reader, its floor and its read under way; the floor of all; and
--- which classes the history has.
+-- What is kept of a history: the values of the writes from a number on, where no read under way, and none that begins later, can be of an
+-- earlier one; how many have begun, and whether the last one is under way; for each reader, its floor and its read under way; the floor of
+-- all; and which classes the history has.
 pub record KeepsHistory (r : Register) (h : List RegisterEvent) (kept : List ℕ) (base begun : ℕ) (writing : Bool) (readers : List ReaderState) (floor : ℕ) (safe regular by_reader atomic : Bool) : Type 0 where
   pub well_formed : IsWellFormed r h
   pub count : begun ≡ started h

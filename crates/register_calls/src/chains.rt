@@ -95,7 +95,7 @@ pub(crate) fn keep_chain<C: Fifo<Chain>>(
     }
 }
 
-// The same for the chain of this place in another list.
+// The same for the chain at this place in another list.
 pub(crate) fn keep_own<C: Fifo<Chain>>(
     chains: &mut C,
     own: &C,
@@ -122,7 +122,7 @@ pub(crate) fn leans(of_any: Option<usize>, low: usize) -> bool
     }
 }
 
-// The read, and after it those of the chain of this place, if it depends on them.
+// The read, and after it those of the chain at this place, if it depends on them.
 pub(crate) fn linked<C: Fifo<Chain>>(
     bounds: &C,
     reader: usize,
@@ -159,7 +159,7 @@ pub(crate) fn raise_floor<C: Fifo<Chain>>(
     }
 }
 
-// The same for the chain of this place.
+// The same for the chain at this place.
 pub(crate) fn raise_own<C: Fifo<Chain>>(
     chains: &mut C,
     bounds: &C,

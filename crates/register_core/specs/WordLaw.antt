@@ -58,7 +58,7 @@ pub record ReadsDigits (j : ℕ) (h : List Event) (count : ℕ) (start stop : �
   pub in_turn : (i : ℕ) → suc i < count → stop i < start (suc i)
   pub each : (i : ℕ) → i < count → IsRead h C (Cell j i) (start i) (stop i) (answer i)
 
--- where a word read ends of which `count` digits were read: where its last digit's read ends, or past the end of the history
+-- where a word read with `count` digits read ends: where its last digit's read ends, or past the end of the history
 -- if that has not ended
 abbrev pub IsReadEnd : ℕ → List Event → ℕ → (ℕ → ℕ) → ℕ → Type 0
 IsReadEnd width h count stop place = ((count ≡ width) × (place ≡ stop (width - 1))) ⊎ ((count < width) × (place ≡ length h))

@@ -20,8 +20,8 @@ fn fault_number(fault: ShapeFault) -> u32
     }
 }
 
-/// Makes a ring with nothing put, by its two ends. 0: done. 1 to 5: the capacity, the batch, the take batch, the modulus or the
-/// width is out of range. 6: there is not enough memory. 7: a handle has an end already. Unless it is 0, nothing is changed.
+/// Makes a ring with nothing put, in the form of its two ends. 0: done. 1 to 5: the capacity, the batch, the take
+/// batch, the modulus or the width is out of range. 6: there is not enough memory. 7: a handle has an end already. Unless it is 0, nothing is changed.
 #[unsafe(no_mangle)]
 pub extern "C" fn ring_open(
     alloc: Global,

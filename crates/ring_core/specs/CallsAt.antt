@@ -33,6 +33,6 @@ IsTakeAt shape calls = IsCallAt (take_phrases shape first_count) (taken_in 0) ca
 abbrev pub IsPartAt : List Made → List Made → ℕ → Type 0
 IsPartAt program part start = (before : List Made) × (after : List Made) × (program ≡ before ++ (part ++ after)) × (start ≡ events_in before)
 
--- how many events a scan has that returns this number
+-- how many events a scan that returns this number has
 abbrev pub scan_events : Side → ℕ → ℕ
 scan_events s seen = events_in (scan_phrase (row_read_by s) seen)

@@ -32,7 +32,7 @@ ItemPutsAreShort =
     (shape : Shape) (c : Count) (seen item : ℕ) → IsCount shape c → IsPut shape c.number (Stored seen (item ∷ [])) →
     length (put_phrase shape c (Stored seen (item ∷ []))) ≤ longest_put shape
 
--- and one that found the ring full no more either
+-- and one that found the ring full has no more either
 abbrev pub FullPutsAreShort : Type 0
 FullPutsAreShort = (shape : Shape) (c : Count) (seen : ℕ) → IsPut shape c.number (Full seen) → length (put_phrase shape c (Full seen)) ≤ longest_put shape
 
@@ -48,7 +48,7 @@ TakesAreShort =
     (shape : Shape) (c : Count) (x : Take) → IsCount shape c → IsTake shape c.number x →
     length (take_phrase shape c x) ≤ longest_taking shape (length (taken_of x))
 
--- so has the take that returns Closed
+-- and so does the take that returns Closed
 abbrev pub EndsAreShort : Type 0
 EndsAreShort =
     (shape : Shape) (k seen again : ℕ) → SeesNone shape k seen → SeesNone shape k again →

@@ -1,8 +1,8 @@
 //! The law of the ring, and what the programs of its two sides say about their accesses. Each law is the contract of a function
 //! that does nothing: a body calls it to have the statement in its proof.
 //!
-//! - `ring_law`, `ring_is_linearizable`, `recorded_is_linearizable`: about every run. With `puts_are_read`, `takes_are_read` and
-//!   `whole_calls_count` code that drives the two ends can derive what came through: `uses::two_threads`.
+//! - `ring_law`, `ring_is_linearizable`, `recorded_is_linearizable`: about every run. With `puts_are_read`,
+//!   `takes_are_read` and `whole_calls_count` code that drives the two ends can derive what came through: `uses::two_threads`.
 //! - The laws of programs, such as `last_bit_is_one`: for code that drives a machine, as `uses::by_hand` does.
 ghost use Rattle.ring_core.specs.CountWrites.{CountsAreWritten, CountsShowNumbers};
 ghost use Rattle.ring_core.specs.Following.{PutsAreFollowed, TakesAreFollowed};

@@ -67,7 +67,7 @@ impl<A: Allocator> PutEnd for HeldPutter<A> {
         self.ring.shape()
     }
 
-    /// As each put; in terms of a queue, the items stored are those before and then this one, if it was stored.
+    /// Like each put; in terms of a queue, the items stored are those before and then this one, if it was stored.
     fn put(&mut self, item: u64) -> PutReply
         requires fits { item < 2 ^ width_of self.old.ring.shape }
         ensures same { IsSameEnd self.old self.new }
@@ -84,7 +84,7 @@ impl<A: Allocator> PutEnd for HeldPutter<A> {
         reply
     }
 
-    /// As each put of several; the items stored are those before and then the first of these, as many as its reply says.
+    /// Like each put of several; the items stored are those before and then the first of these, as many as its reply says.
     fn put_all(&mut self, items: &[u64]) -> BatchReply
         requires batch { IsBatch self.old.ring.shape items.now }
         ensures same { IsSameEnd self.old self.new }
@@ -101,7 +101,7 @@ impl<A: Allocator> PutEnd for HeldPutter<A> {
         reply
     }
 
-    /// As each close; the items stored are the same.
+    /// Like each close; the items stored are the same.
     fn close(&mut self)
         ensures same { IsSameEnd self.old self.new }
         ensures lawful { StandsAs P self.new }

@@ -15,8 +15,8 @@ use ring_ends::{CounterRing, Finished, RunFault};
 use std::alloc::Allocator;
 use std::sync::Arc;
 
-/// A new counter ring of this shape, by its two ends: one puts, the other takes. It takes memory for the ring's words and
-/// once for the ring itself. `OutOfMemory` is returned if the allocator refused either, and then all of it is freed.
+/// A new counter ring of this shape, in the form of its two ends: one puts, the other takes. It takes memory for the
+/// ring's words and once for the ring itself. `OutOfMemory` is returned if the allocator refused either, and then all of it is freed.
 ///
 /// In use: `uses::held_ends::deliver`.
 #[tactic(auto, using(ring_ends::proofs::StoredItems::none_stored, ring_ends::proofs::StoredItems::none_took))]

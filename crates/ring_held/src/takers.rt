@@ -67,7 +67,7 @@ impl<A: Allocator> TakeEnd for HeldTaker<A> {
         self.ring.shape()
     }
 
-    /// As each take; in terms of a queue, the items taken are those before and then the one that it returns, if it returns one.
+    /// Like each take; in terms of a queue, the items taken are those before and then the one that it returns, if it returns one.
     fn take(&mut self) -> TakeReply
         ensures same { IsSameEnd self.old self.new }
         ensures lawful { StandsAs C self.new }
@@ -83,7 +83,7 @@ impl<A: Allocator> TakeEnd for HeldTaker<A> {
         reply
     }
 
-    /// As each take of several; the items taken are those before and then those in the first places, as many as its reply says.
+    /// Like each take of several; the items taken are those before and then those in the first places, as many as its reply says.
     fn take_all(&mut self, into: &mut [u64]) -> TakeBatchReply
         requires some { 1 ≤ length into.old }
         requires few { length into.old ≤ take_batch_of self.old.ring.shape }

@@ -17,7 +17,7 @@ use Rattle.ring_page.specs.declared.orders.Holds.{Holds}
 abbrev pub capacity_in : Holds → Capacity
 capacity_in holds = (if nat_eq holds.bounded 0 then Unbounded else Between holds.full holds.most)
 
--- a number of the numbers from a place on, if they are there
+-- some of the numbers, from a place on, if they are there
 abbrev pub listed_in : List ℕ → Came → Option (List ℕ)
 listed_in numbers came = (if nat_le (came.value + came.count) (length numbers) then Some (take came.count (drop came.value numbers)) else None)
 

@@ -57,7 +57,7 @@ broken kind place dues =
 abbrev pub none_due : Dues
 none_due = record { first = None; second = None; third = None }
 
--- If an event is not of its side's program, these were due of its side: exactly those that continue the programs after the events
+-- If an event is not of its side's program, these were due on its side: exactly those that continue the programs after the events
 -- before it, in their order. None for a fault of the bits.
 abbrev pub WereDue : Kind → Shape → List Event → ℕ → Dues → Type 0
 WereDue WrongSide shape h place dues = dues ≡ none_due

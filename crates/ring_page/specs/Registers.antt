@@ -76,7 +76,7 @@ no_miss = record {
   eighth = no_read;
 }
 
--- a miss with the reason with this number, without details
+-- a miss whose reason has this number, without details
 abbrev pub plain_miss : RegisterMiss → ℕ → MissTold
 plain_miss miss number = record no_miss { line = miss.line; reader = miss.reader; value = miss.value; reason = number }
 

@@ -107,8 +107,8 @@ pub record AuditsTrace (IsRead : List ℕ → Shape → List Event → Type 0) (
   pub ends : ending ≡ verdict_ending_of verdict
 
 -- The text of a play of the script by the letters of its schedule: a report; the trace of its history; or a recording of
--- its calls, by a queue of the ring's capacity, whose history is linearizable. For a play by a near miss it is the
--- trace; or a line of the ring's capacity and then one for each start and end of a recorded call
+-- its calls, for a queue of the ring's capacity, whose history is linearizable. For a play by a near miss it is the
+-- trace; or a line with the ring's capacity and then one for each start and end of a recorded call
 abbrev pub ShowsPlay : PlayText → Content → List ℕ → Type 0
 ShowsPlay shown.Report script text =
     (history : List Event) × IsPlayOf script script.letters history × EachReadingIsLinearizable script.shape history

@@ -174,6 +174,6 @@ abbrev pub near_calls : Content → List ℕ → List (CallEvent ℕ ℕ) → Li
 near_calls script taken [] = []
 near_calls script taken (event ∷ told) = event_by (offered script) (first_items taken) event ∷ near_calls script (drop (items_by event) taken) told
 
--- a line of the ring's capacity, and the line of each event of calls
+-- a line with the ring's capacity, and the line of each event of calls
 abbrev pub told_text_of : Content → List queue.Event → List ℕ
 told_text_of script events = lines_text (line word.Queue (capacity_of script.shape ∷ []) ∷ lines_of begun.Nothing events)

@@ -22,7 +22,7 @@ pub fn begun_behind(begun: Begun, event: Event<'_>) -> Begun
     }
 }
 
-// How many items the put offered that began last.
+// How many items the put that began last offered.
 fn offered_last(begun: Begun) -> usize
     ensures { result ≡ offered_last begun }
 {

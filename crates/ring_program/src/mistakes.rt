@@ -88,7 +88,7 @@ fn asks_two_audits(words: &[&str]) -> bool {
     names(words, "audit") && gives(words, "--bits") && gives(words, "--calls")
 }
 
-// The words ask for a long audit, and not of bits.
+// The words ask for a long audit, but not of bits.
 fn asks_long_alone(words: &[&str]) -> bool {
     names(words, "audit") && gives(words, "--long") && !gives(words, "--bits")
 }
@@ -123,14 +123,14 @@ fn asks_register_and_more(words: &[&str]) -> bool {
             || gives(words, "--why"))
 }
 
-// The words ask for a class or a report, and not of a register.
+// The words ask for a class or a report, but not for a register.
 fn asks_class_alone(words: &[&str]) -> bool {
     names(words, "audit")
         && !gives(words, "--register")
         && (value_of(words, "--at-least").is_some() || gives(words, "--report"))
 }
 
-// The words ask for a play by a near miss, and not for exactly one of its texts.
+// The words ask for a play by a near miss, but not for exactly one of its texts.
 fn asks_wrong_alone(words: &[&str]) -> bool {
     names(words, "play")
         && value_of(words, "--wrong").is_some()

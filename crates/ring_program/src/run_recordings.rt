@@ -22,7 +22,7 @@ use std::collections::VecDeque;
 /// How many lines of either side a recording has room for at most.
 pub const RECORDED: usize = 1 << 21;
 
-// What of a run has not been written yet.
+// Which part of a run has not been written yet.
 #[derive(Clone, Copy)]
 struct Untold<'r> {
     // the items not stored, and those taken

@@ -92,7 +92,7 @@ fn event_of<'a, B: Allocator, T: Took>(
     }
 }
 
-// A line of the ring's capacity, and the lines of the starts and ends of the calls of a play.
+// A line with the ring's capacity, and the lines of the starts and ends of the calls of a play.
 fn told_text<A: Allocator, B: Allocator>(
     alloc: A,
     script: &Script<B>,
@@ -125,8 +125,8 @@ fn items_left<'a>(items: &'a [u64], told: &NearCall) -> &'a [u64]
     }
 }
 
-/// A line of the ring's capacity, and the lines of the starts and ends of the calls of a play by a near miss, whose takes took these
-/// items.
+/// A line with the ring's capacity, and the lines of the starts and ends of the calls of a play by a near miss, whose
+/// takes took these items.
 pub fn near_text<A: Allocator, B: Allocator>(
     alloc: A,
     script: &Script<B>,

@@ -48,8 +48,8 @@ fn next_batch(shape: &Shape, left: usize) -> usize
 }
 
 // Puts the items in order, as many at a time as the shape's batch has, each again while the ring is full, and
-// closes after the last. It ends as well with a put that found the ring full and began when the taker was seen to be over.
-// Returns how many items were stored, how many puts were made, and how many found the ring full.
+// closes after the last. It ends as well with a put that found the ring full and began when the taker was seen to have
+// finished. Returns how many items were stored, how many puts were made, and how many found the ring full.
 #[tactic(auto, using(ring_core::proofs::LawLemmas::puts_are_read))]
 fn put_in_order<E: PutEnd, G: Gate>(
     putter: &mut E,
@@ -174,9 +174,9 @@ fn append<A: Allocator>(items: &mut Vec<u64, A>, more: &[u64]) -> Result<(), All
 }
 
 // Takes until the ring is closed, into a list with no item yet, as many items at a time as the shape's take batch, but no more than
-// are left of the limit. It ends as well with a take that found the ring empty and began when the putter was seen to be over.
-// Returns how many takes were made, how many found the ring empty, and whether one returned Closed. If the list has no room for the
-// items of a take, and can get none, they are lost, and no more takes are made.
+// are left of the limit. It ends as well with a take that found the ring empty and began when the putter was seen to
+// have finished. Returns how many takes were made, how many found the ring empty, and whether one returned Closed. If
+// the list has no room for the items of a take, and can get none, they are lost, and no more takes are made.
 fn take_all<A: Allocator, E: TakeEnd, G: Gate>(
     items: &mut Vec<u64, A>,
     taker: &mut E,
@@ -370,13 +370,13 @@ fn relay_into<R: Threads, A: Allocator, E: PutEnd + Send, F: TakeEnd + Send, G: 
     })
 }
 
-/// Works the two ends at the same time, in two threads. The one side puts the items in order, as many at a time as the shape's
-/// batch has, continues after those that were stored, and closes after the last; so a put that found the ring full is made again.
-/// The other side takes as many items at a time as the shape's take batch, but no more than are left of its limit, until a take
-/// returns Closed. Neither makes more puts or takes than its limit (the close is not counted, and a take that brings several
-/// items counts once for each), and each passes the gate before each of them, with the number that it has made. The gate receives
-/// the start and the end of each put, of each take and of the close, from the thread that makes it; and after each put that found
-/// the ring full, and each take that found it empty, how many have in a row.
+/// Works the two ends at the same time, in two threads. One side puts the items in order, as many at a time as the
+/// shape's batch has, continues after those that were stored, and closes after the last; so a put that found the ring
+/// full is made again. The other side takes as many items at a time as the shape's take batch, but no more than are
+/// left of its limit, until a take returns Closed. Neither makes more puts or takes than its limit (the close is not
+/// counted, and a take that brings several items counts once for each), and each passes the gate before each of them,
+/// with the number that it has made. The gate receives the start and the end of each put, of each take and of the
+/// close, from the thread that makes it; and after each put that found the ring full, and each take that found it empty, how many have in a row.
 ///
 /// A side that has finished ends the other: a put that found the ring full, or a take that found it empty, is the last
 /// if it began after the first side had finished, as nothing can change for the next. The same applies if the first

@@ -50,12 +50,12 @@ impl Stage {
 #[derive(Drop)]
 pub(crate) struct Watch<'a> {
     other: &'a Stage,
-    // Whether the other side was over when this one last looked.
+    // Whether the other side had finished when this one last looked.
     is_over: bool,
     /// How many calls were in vain.
     pub waited: u64,
-    /// How many of them began when the other side was seen to be over. Such a call is the last one: nothing changes for the next
-    /// one.
+    /// How many of them began when the other side was seen to have finished. Such a call is the last one: nothing
+    /// changes for the next one.
     pub vain: u64,
 }
 

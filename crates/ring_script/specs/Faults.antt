@@ -48,7 +48,7 @@ pub record IsFirst (IsSo : Field → Type 0) (field : Field) : Type 0 where
   pub so : IsSo field
   pub least : (other : Field) → field_place other < field_place field → ¬ IsSo other
 
--- the byte at the place is the first that cannot come where it is: before it the text is of the form, and with it no longer
+-- the byte at the place is the first that cannot come where it is: the text before it has the form, and with it no longer does
 pub record IsFirstStray (IsOfForm : List ℕ → Type 0) (text : List ℕ) (place : ℕ) : Type 0 where
   pub within : place < length text
   pub before : IsOfForm (take place text)

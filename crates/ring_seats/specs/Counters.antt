@@ -64,7 +64,7 @@ pub record AreLast (x : Side) (row : ℕ → Bit) (made : List Event → List Ma
   pub list_is : list ≡ (before ++ events_of x (made before)) ++ after
   pub none : NoWriteOf row after
 
--- v is the value of the last count write in the side's list, or 0 before any
+-- v is the value of the last count write in the side's list, or 0 if there is none
 abbrev pub IsLastCount : Side → List Event → ℕ → Type 0
 IsLastCount x list v = AreLast x (row_bit x) (λ before. unary_over x before v) list ⊎ (NoWriteOf (row_bit x) list × (v ≡ 0))
 

@@ -109,7 +109,7 @@ abbrev pub HasSeats : (Side → ℕ) → List View → Type 0
 HasSeats owner views = (x : Side) → (v : View) × (get_elem? views (owner x) ≡ some v) × (may_step x v ≡ true)
 
 -- There is a lawful history, whose two sides are the two seats' lists and follow their programs, which the words show, and
--- which begins with what the seats know; and for each side there is one seat that may step for it, and no other. The kind of
+-- which begins with what the seats know; and for each side there is exactly one seat that may step for it. The kind of
 -- ring says how many words it has and what they show
 pub record KeptBy (count : Shape → ℕ) (IsShown : Shape → List ℕ → List Event → Type 0) (shape : Shape) (s : State (Unit {0}) View) : Type 0 where
   pub history : List Event

@@ -152,7 +152,7 @@ impl<'a> Words<'a, Flickering> {
         place_of(&self.shape, bit)
     }
 
-    /// Loads the word of a bit of the ring's shape, by no end. It is that of a state that satisfies the ring's rule.
+    /// Loads the word of a bit of the ring's shape, for neither end. It is that of a state that satisfies the ring's rule.
     pub fn find_bit(&self, bit: Bit) -> u64
         requires { belongs self.now.shape bit ≡ true }
         ensures { IsWordFound (KeepsFlickerRule self.now.shape) (word_place self.now.shape bit) result }

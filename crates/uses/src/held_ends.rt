@@ -1,5 +1,5 @@
-//! Ends that own their ring: each goes into a struct with what it works on, and the struct to a thread. What the one took is a prefix of
-//! what the other stored.
+//! Ends that own their ring: each goes into a struct with what it works on, and the struct to a thread. What one took
+//! is a prefix of what the other stored.
 ghost use Rattle.std.specs.Prelude.{◌≡◌, ◌≤◌, true, [], IfOk, length, take};
 ghost use Rattle.bits_core.specs.Made.{IsPrefix};
 ghost use Rattle.bits_core.specs.Shape.{AllFit};
