@@ -1,4 +1,4 @@
--- Operations that come one after the other at a queue, and some that do not; and what is counted of pasts, the last event first.
+-- Operations that come one after the other at a queue, and some that do not; and what is counted in pasts, the last event first.
 use Rattle.std.proofs.Common.{◌≡◌, true, false, [], ◌∷◌, length, refl, ap, arith}
 use Rattle.queue_calls.specs.Queue.{Unbounded, Between, exactly, Enqueue, FindNoRoom, FindFull, FindShut, Close, Dequeue, FindFewer, FindEmpty, FindClosed, Queue, queue, IsLegal}
 use Rattle.queue_calls.specs.Calls.{PutBegin, PutStored, TakeBegin, TakeItems}

@@ -1,4 +1,4 @@
--- What is counted of a history agrees with its past, and represents it.
+-- What is counted in a history agrees with its past, and represents it.
 use Rattle.std.proofs.Common.{◌≡◌, inl, inr, ℕ, true, false, Some, List, [], ◌∷◌, ◌++◌, reverse, refl, sym, subst, append_assoc, append-nil}
 use Rattle.std.specs.Prelude.{unwrap_or}
 use Rattle.queue_calls.specs.Queue.{Capacity}

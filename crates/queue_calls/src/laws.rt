@@ -1,5 +1,5 @@
-//! What follows of the queue and of histories of its calls. Each law is the contract of a function that does nothing: a body
-//! calls it to have the statement in its proof.
+//! What follows from the queue and from histories of its calls. Each law is the contract of a function that does
+//! nothing: a body calls it to have the statement in its proof.
 //!
 //! - `moments_are_orders`, `counts_are_exact`, `counted_is_linearizable`: linearizability in three forms. For a proof that the
 //!   calls of a queue are linearizable: the counting rules need neither moments nor an order to be found.

@@ -107,7 +107,7 @@ ended_next r (e ∷ b) w v x u formed is that less = elim (placed_event-cases e 
       ends_more e b w x (omega arith) (ended_next r b w v x u formed.0 (sym (placed_event-before e b w (omega arith)) ∙ is) early.1 less)
 ]
 
--- what a register holds: by 0 the first value, and by suc of a place that of the write that begins there
+-- what a register holds: for 0 the first value, and for suc of a place the value of the write that begins there
 abbrev pub Holds : (first : ℕ) → List RegisterEvent → (number held : ℕ) → Type 0
 Holds first h zero held = held ≡ first
 Holds first h (suc w) held = IsWriteFrom h held w

@@ -52,7 +52,7 @@ so_far_length s list None = (omega (arith, length-events s list), omega (arith, 
 so_far_length s list (Some a) =
     (omega (arith, length-events s list, length-append (events_of s list) (opening_event s a ∷ [])), omega (arith, length-events s list, length-append (events_of s list) (opening_event s a ∷ [])))
 
--- if the accesses of these events continue, those of the whole are more, and begin with these
+-- if the accesses of these events continue, the whole has more accesses, and begins with these
 pub goes_longer :
     (s : Side) (list done whole rest : List Made) (a : Access) → events_of s list ≡ events_of s done → (list ++ answered a true ∷ []) ++ rest ≡ whole →
     (2 * length done < 2 * length whole) × IsPrefix (events_of s done) (events_of s whole)

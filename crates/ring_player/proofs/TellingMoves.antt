@@ -152,7 +152,7 @@ module _ (script : Content) (h h' : List Event) (e : Event) (is : h' ≡ h ++ e 
         )
 
   module _ (by : e.side ≡ C) (stage : PutStage) (t next : TakeStage) (wanted : ℕ) (before now : TakeTally) (told : Option (CallEvent ℕ TakenItems)) where
-    -- what is counted of takes in a history
+    -- what is counted about takes in a history
     abbrev pub IsCounted : List Event → TakeTally → Type 0
     IsCounted es kept =
         (takes : Takes) → FollowsTakes script.shape es takes →

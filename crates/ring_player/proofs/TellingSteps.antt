@@ -1,4 +1,4 @@
--- What one event of a side records of its calls, by the stage that the side is in and by what is counted of the calls that are over.
+-- What one event of a side records of its calls, by the stage that the side is in and by what is counted about the calls that are over.
 use Rattle.std.proofs.Common.{◌≡◌, ◌⊎◌, inl, inr, ℕ, suc, ◌+◌, ◌-◌, ◌<◌, ◌≤◌, true, List, [], ◌∷◌, ◌++◌, length, take, drop, refl, sym, ap, ap₂, subst, ◌∙◌, arith, append_assoc, length-append}
 use Rattle.std.proofs.Math.Seq.{drop-append_seam, take-append_seam}
 use Rattle.bits_core.specs.Made.{IsPrefix}

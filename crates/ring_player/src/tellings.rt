@@ -51,7 +51,7 @@ pub(crate) enum TakeStage {
     Told,
 }
 
-// What was counted of the puts that are over: the items that they stored, and how many found the ring full.
+// What was counted about the puts that are over: the items that they stored, and how many found the ring full.
 #[derive(Clone, Copy)]
 struct PutCount {
     stored: usize,
@@ -97,7 +97,7 @@ fn put_says(
     }
 }
 
-// What was counted of the takes that are over: the items that they took, how many found the ring empty, and whether one returned Closed.
+// What was counted about the takes that are over: the items that they took, how many found the ring empty, and whether one returned Closed.
 #[derive(Clone, Copy)]
 struct TakeCount {
     taken: usize,
@@ -144,7 +144,7 @@ struct Stages {
     take: TakeStage,
 }
 
-// What was counted of the puts that are over.
+// What was counted about the puts that are over.
 fn put_count<E: Store<Event>, T: Store<u64>>(world: &World<'_, E, T>) -> PutCount
     ensures stored { (puts : Puts) → FollowsPuts world.now.script.shape world.now.history puts →
         result.stored ≡ stored_in 0 (puts_over_in world.now.script.shape world.now.history puts) }
@@ -157,7 +157,7 @@ fn put_count<E: Store<Event>, T: Store<u64>>(world: &World<'_, E, T>) -> PutCoun
     }
 }
 
-// What was counted of the takes that are over.
+// What was counted about the takes that are over.
 fn take_count<E: Store<Event>, T: Store<u64>>(world: &World<'_, E, T>) -> TakeCount
     ensures taken { (takes : Takes) → FollowsTakes world.now.script.shape world.now.history takes →
         result.taken ≡ length (all_taken (takes_over_in world.now.script.shape world.now.history takes)) }

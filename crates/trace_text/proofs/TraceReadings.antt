@@ -220,7 +220,7 @@ too_long_no_trace bytes t fs a b =
     more_is_left [] e none = a.goes_on.more e
     more_is_left (x ∷ more) e none = omega arith
 
--- the line of the shape that a fault further on comes after
+-- the line of the shape, after which a fault comes further on
 line_before : (bytes : List ℕ) (s : Shape) (es : List Event) (rest : List ℕ) → IsTraceAndMore bytes s es rest → HasShapeLine bytes (capacity_of s) (modulus_of s) (width_of s) (batch_of s) (take_batch_of s)
 line_before bytes s es rest g = shape_has_line bytes s (lines es ++ rest) (text_begins bytes s es rest g.text)
 

@@ -1,5 +1,5 @@
 // The picture of recorded calls: a bar for each call of a side, from the line that begins it to the one that ends it, with the words of
-// both. It places rectangles: the line at fault, and the one that contradicts it, are numbers of the module.
+// both. It places rectangles: the line at fault, and the one that contradicts it, are numbers from the module.
 
 import { MOST_CALLED } from "../text/calls.js";
 import { callsWithin, capacityIn, lineIn } from "../text/recorded_lines.js";

@@ -1,5 +1,5 @@
 // The picture of a history: events as module.js makes them go in, the text of an SVG comes out. It places rectangles:
-// what a bit holds, which reads a write overlapped, and at which places a read and a write overlap are numbers of the module.
+// what a bit holds, which reads a write overlapped, and at which places a read and a write overlap are numbers from the module.
 
 import { callWords, partWords, partsOfCall } from "../text/calls.js";
 import { accessPath } from "./bar.js";

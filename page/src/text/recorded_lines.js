@@ -1,4 +1,4 @@
-// The text of recorded calls: its lines, the calls that they begin and end, what is counted of them, and the rows of its report. The module
+// The text of recorded calls: its lines, the calls that they begin and end, what is counted in them, and the rows of its report. The module
 // says whether a text is a recording, whether its history is linearizable, and what contradicts a line.
 
 export const MANY = 2 ** 31 - 1; // a number that means itself and all larger ones

@@ -20,7 +20,7 @@ pub(crate) enum Call {
     Meet,
 }
 
-// A shape, by its capacity, modulus, width and batch; calls in order; and at the end: whether closed, and whether Closed was returned.
+// A shape, by its capacity, modulus, width and batch; calls in order; and at the end: whether the ring is closed, and whether Closed was returned.
 struct Case {
     shape: [u64; 4],
     closed: bool,

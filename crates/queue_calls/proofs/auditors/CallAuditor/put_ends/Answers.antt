@@ -11,7 +11,7 @@ use Rattle.queue_calls.proofs.Ends.EndLemmas.{late_had, none_moves, put_had, put
 use Rattle.queue_calls.proofs.Decided.{kept_as}
 use Rattle.queue_calls.proofs.auditors.CallAuditor.put_ends.Goals as goal
 
--- a put in turn is refused if what holds for one that can be counted does not
+-- a put in turn is refused if what holds for one that can be counted does not hold
 refuses :
     {Q E : Type 0} (items : Q → List ℕ) (room : Q → ℕ) (old new : CallAuditor Q E) (event : Event) (offered before : ℕ) (x : ℕ × ℕ) → EndsAPut event → old.put ≡ Offers offered before →
     outcome_of event offered ≡ Some x → new.capacity ≡ old.capacity → kept_by items new ≡ kept_by items old →

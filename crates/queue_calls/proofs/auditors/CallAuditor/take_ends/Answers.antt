@@ -13,7 +13,7 @@ use Rattle.queue_calls.proofs.Decided.{kept_as}
 use Rattle.queue_calls.proofs.auditors.CallAuditor.take_ends.Goals as goal
 use Rattle.queue_calls.proofs.auditors.CallAuditor.take_ends.Goals.{then-not-are_next-via-then-not-are_next, then-not-are_next-via-else-not-are_next+then-not-ends_take}
 
--- a take in turn is refused if what holds for one that can be counted does not
+-- a take in turn is refused if what holds for one that can be counted does not hold
 refuses :
     {Q E : Type 0} (items : Q → List ℕ) (room : Q → ℕ) (old new : CallAuditor Q E) (event : Event) (wanted before : ℕ) (ended : Bool) (x : ℕ × ℕ) → EndsATake event →
     old.take ≡ Waits wanted before ended → outcome_of event wanted ≡ Some x → new.capacity ≡ old.capacity → kept_by items new ≡ kept_by items old →
