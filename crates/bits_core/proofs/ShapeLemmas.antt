@@ -85,7 +85,7 @@ in_range low n high = elim (cases_lt low n) [
   | inr small ↦ inr (λ r. omega (arith, small, r.0))
 ]
 
--- five numbers make a shape, or refused
+-- five numbers make a shape, or are refused
 abbrev pub ShapeTold : ℕ → ℕ → ℕ → ℕ → ℕ → Type 0
 ShapeTold c m w g h = ((shape : Shape) × HasBatches c m w g h shape) ⊎ ((fault : ShapeFault) × IsRefusedBatches c m w g h fault)
 

@@ -206,7 +206,7 @@ module _ {S O T N B : Type 0} {offered : O → List Offered} {last : T → List 
   pub counted_so : (event : Event) (after : Kept) → Counts (meant w.auditor.capacity) (kept_of offered w) event after → Counts capacity (kept_of offered w) event after
   counted_so event after c = subst (λ z. Counts z (kept_of offered w) event after) r.capacity_is c
 
-  -- the entries after an event of this line
+  -- the entries after an event on this line
   pub inside_after :
       (event : Event) (line : ℕ) (after : Kept) (left : List Offered) → length events + 2 ≡ line → items_of left ≡ after.inside → Counts (meant w.auditor.capacity) (kept_of offered w) event after →
       Moves (offered_at line) w.auditor.shut event (offered w.auditor.inside.list) left → ((count : ℕ) (why : Bool) → event ≡ PutStored count why → ⊥) → left ≡ coming (event ∷ reverse events)
@@ -252,7 +252,7 @@ module _ {S O T N B : Type 0} {offered : O → List Offered} {last : T → List 
   refuses next o t event NotLinearizable still f = (still, f.0, subst (λ z. ¬ IsLinearizable z (events ++ event ∷ [])) r.capacity_is f.1)
   refuses next o t event OutOfMemory still f = inl (subst (λ z. HasMoreItems o z (events ++ event ∷ [])) r.capacity_is f.1)
 
-  -- what is remembered after an event of this line, except for the end of a put that stored some, if it leaves what is kept besides the
+  -- what is remembered after an event on this line, except for the end of a put that stored some, if it leaves what is kept besides the
   -- auditor like this
   pub heard :
       {next : Witness S O T N B} {line : ℕ} {told' event : Event} → told' ≡ event → length events + 2 ≡ line → ((count : ℕ) (why : Bool) → event ≡ PutStored count why → ⊥) →

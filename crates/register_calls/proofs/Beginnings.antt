@@ -101,7 +101,7 @@ pub record Began (i : ℕ) (h : List RegisterEvent) (start : ℕ) : Type 0 where
   pub within : start < length h
   pub none : (p : ℕ) → start < p → p < length h → ¬ IsOfReader i (placed_event h p)
 
--- one more event, which is not of the reader
+-- one more event, which is not the reader's
 began_still : (i : ℕ) (e : RegisterEvent) (b : List RegisterEvent) (start : ℕ) → ¬ IsOfReader i (Some e) → Began i b start → Began i (e ∷ b) start
 began_still i e b start other began = record {
   begins = placed_event-before e b start began.within ∙ began.begins;

@@ -18,7 +18,7 @@ lows_others xs ys i state moves = record { each = λ j apart. ap (λ (s : Reader
 pub own_lows_others : (xs ys : List ReaderState) (i : ℕ) (state : ReaderState) → MovesReader xs ys i state → KeepsOthers i (own_lows xs) (own_lows ys)
 own_lows_others xs ys i state moves = record { each = λ j apart. ap (λ (s : ReaderState). option_map (λ (r : OpenRead). r.own_low) s.reading) (moves.others j apart) }
 
--- no read is under way of a reader past the end of the list
+-- no read of a reader past the end of the list is under way
 pub open_within : (xs : List ReaderState) (i : ℕ) (r : OpenRead) → (reader_at xs i).reading ≡ Some r → i < length xs
 open_within [] i r at = absurd (none-some r at)
 open_within (x ∷ xs) zero r at = omega arith

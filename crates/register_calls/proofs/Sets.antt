@@ -3,7 +3,7 @@ use Rattle.std.proofs.Common.{◌≡◌, ◌⊎◌, ◌<◌, inl, inr, ℕ, zero
 use Rattle.std.specs.Prelude.{slice_get}
 use Rattle.std.proofs.lemmas.Option.{none-some, same_Some}
 
--- an item of a list with one more is of the list, or that one
+-- an item of a list with one more is in the list, or is that one
 pub get_more : {X : Type 0} (xs : List X) (y z : X) (i : ℕ) → slice_get (xs ++ y ∷ []) i ≡ Some z → (slice_get xs i ≡ Some z) ⊎ (y ≡ z)
 get_more [] y z zero e = inr (same_Some y z e)
 get_more [] y z (suc i) e = absurd (none-some z e)

@@ -44,7 +44,7 @@ get_digit j item (suc n) i l = elim (cases_lt i n) [
       ap (slice_get (digit_reads j item n ++ Read (Cell j n) (digit n item) ∷ [])) (sym at) ∙ get_behind (digit_reads j item n) (Read (Cell j n) (digit n item) ∷ []) 0 ∙ ap (λ k. Some (Read (Cell j k) (digit k item))) (sym e)
 ]
 
--- places of own events rise with their numbers
+-- the places of a side's own events rise with their numbers
 rise : (s : Side) (h : List Event) (i k : ℕ) → i < k → k < length (subhistory s h) → place_of s h i < place_of s h k
 rise s h i k l m = (clock_counts_places s h i (place_of s h k) (omega arith)).1 (omega (arith, (subhistory_has_place s h k m).before))
 

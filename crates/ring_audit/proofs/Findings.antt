@@ -40,7 +40,7 @@ not_before :
 not_before shape h p q k l f g below =
     f.breaks (subst (IsOfPrograms shape) (take-take (suc p) q h (omega (arith, below))) (programs_take shape (take q h) (suc p) g.before))
 
--- a fault is the program's if the bits are lawful, otherwise of the bits
+-- a fault is the program's if the bits are lawful, otherwise that of the bits
 of_kind : (shape : Shape) (h : List Event) (place : ℕ) (k : Kind) → IsKindAt shape h place k → (IsLawful shape (take (suc place) h) × (k ≡ NotProgram)) ⊎ IsFirstFault shape h place k
 of_kind shape h place NotProgram is = inl (is, refl)
 of_kind shape h place WrongSide is = inr is

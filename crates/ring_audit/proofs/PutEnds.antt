@@ -79,7 +79,7 @@ items-behind shape c (Full seen ∷ xs) ys t all l =
     let left : (t - here) - there ≡ t - events_in (put_phrases shape c (x ∷ xs)) = omega (arith, both) in
     rest ∙ ap (λ n. all_put xs ++ items_put shape (stored_count shape c xs) ys n) left
 
--- a put whose count write has not begun has put nothing, and one whose count write has begun its items
+-- a put whose count write has not begun has put nothing, and one whose count write has begun has put its items
 late : (shape : Shape) (c : Count) (seen : ℕ) (items : List ℕ) (t : ℕ) → t ≤ events_in (accesses_before_count shape c.number seen items) → items_put shape c (Stored seen items ∷ []) t ≡ []
 late shape c seen items t l = ap (λ b. (if b then items else []) ++ []) (le-ltb (events_in (accesses_before_count shape c.number seen items)) t l)
 

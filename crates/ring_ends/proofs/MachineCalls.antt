@@ -135,7 +135,7 @@ stepped_stands k ks {e} {m} s calls made at = ⊎_elim
     (λ on. let t = s.steps calls made at on.0 on.1 in (t.more, t.made, t.at.stands))
     (ks.either m)
 
--- ---- of an end that marks the events of the call under way
+-- ---- for an end that marks the events of the call under way
 
 -- A call that starts or continues: the model of the end, and its list without the events of the call under way; the end, its machine and
 -- its mark, as required; and the machine once the call has started.

@@ -153,7 +153,7 @@ rests_told m calls made stands told = by (is_taking m) refl
     by true is = absurd (never_open calls told (subst (λ (z : Bool). IsOpenForTake z calls) is stands.not_over))
     by false is = (is, subst (λ (z : Bool). AreItemsOfTake calls z m.items) is stands.items_are ∙ none_kept calls.end calls.takes told)
 
--- ---- of a complete take
+-- ---- for a complete take
 
 pub take_brought : (wanted : ℕ) (w : Whole consuming wanted) → Brought w.e.ring.shape wanted w.begun.seen.list w.e.list w.m.reply w.m.items
 take_brought wanted w = by (ending consuming take_laws w)
@@ -172,7 +172,7 @@ take_brought wanted w = by (ending consuming take_laws w)
         let kept = rests_told w.begun.now calls w.begun.was.0.made w.begun.begins.1 refused.0 in
         brought_none w.e.ring.shape wanted w.begun.seen.list w.e.list calls before_is refused.0 (ap (λ (x : RingEnd). x.list) same_end) w.m.reply refused.1 w.m.items (ap (λ (x : ConsumerState). x.items) same_m ∙ kept.1)
 
--- ---- of a step
+-- ---- for a step
 
 module _ (wanted : ℕ) (s : Step consuming wanted) where
   abbrev calls : Takes
@@ -253,7 +253,7 @@ module _ (wanted : ℕ) (s : Step consuming wanted) where
             let part = take_none wanted s n' n_rests n_goes None none in
             (part.0, take_wanted wanted s part.0, f, part.1, part.2)
 
--- ---- of a take of a counter ring
+-- ---- for a take of a counter ring
 
 module _ (a b : RingEnd) (count cell : ℕ) (calls : Takes) (wanted : ℕ) (y : batch_replies.TakeBatchReply) (into : List ℕ) (has : HasTakes a.ring.shape a.list calls) (kept : TakeAllKept a b count cell calls wanted y into) where
   abbrev m : TakeMade a b calls wanted kept.0 kept.1

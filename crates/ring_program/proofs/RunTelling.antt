@@ -1,4 +1,4 @@
--- What of a run is not written yet, and what is written with one more event.
+-- Which part of a run is not written yet, and what is written with one more event.
 use Rattle.std.proofs.Common.{rules, ◌≡◌, ◌∙◌, ℕ, ◌+◌, ◌-◌, ◌≤◌, Bool, true, false, not, min, Bor, List, [], ◌∷◌, ◌++◌, length, take, drop, refl, ap, ap₂, sym, subst, append_assoc, arith}
 use Rattle.std.proofs.lemmas.List.{append-nil, drop-drop, take-append-drop, take_min}
 use Rattle.std.proofs.lemmas.List.Sums.{sum_by-cons, sum_by_push}

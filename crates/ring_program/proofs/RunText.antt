@@ -43,7 +43,7 @@ small_more : (h : List Event) (event : Event) → TellsSmall h → AreSmall (num
 small_more [] event all small = (small, tt)
 small_more (e ∷ h) event all small = (all.0, small_more h event all.1 small)
 
--- ---- what is written in this way far
+-- ---- what is written so far
 
 -- the text has a first line with the capacity, and whether later calls are missing, and the lines of these events
 pub record IsWritten (is_cut : Bool) (capacity : ℕ) (b : Begun) (text : List ℕ) (events : List Event) : Type 0 where

@@ -58,7 +58,7 @@ after_puts shape [] c is = is
 after_puts shape (Stored seen items ∷ puts) c is = after_puts shape puts (stored_after shape c (Stored seen items)) ((counts_are_written_numbers shape).1 c seen items)
 after_puts shape (Full seen ∷ puts) c is = after_puts shape puts (stored_after shape c (Full seen)) (record { set = is.set; clear = is.clear })
 
--- and that after takes of the number of items taken
+-- and that after takes is that of the number of items taken
 after_takes : (shape : Shape) (takes : List Take) (c : Count) → IsCount shape c → IsCount shape (taken_count shape c takes)
 after_takes shape [] c is = is
 after_takes shape (Item seen items ∷ takes) c is = after_takes shape takes (count_after shape c (Item seen items)) ((counts_are_written_numbers shape).1 c seen items)

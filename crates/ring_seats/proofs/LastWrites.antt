@@ -64,7 +64,7 @@ writes_more b xs ys = filter_map-append (write_of b) xs ys
 none_more : (row : ℕ → Bit) (xs ys : List Event) → NoWriteOf row xs → NoWriteOf row ys → NoWriteOf row (xs ++ ys)
 none_more row xs ys a b i = writes_more (row i) xs ys ∙ (λ k. a i k ++ b i k)
 
--- the value of the last writes, or 0 before any
+-- the value of the last writes, or 0 if there are none
 abbrev pub IsLast : Side → (ℕ → Bit) → (List Event → List Made) → List Event → ℕ → Type 0
 IsLast x row made list v = AreLast x row made list ⊎ (NoWriteOf row list × (v ≡ 0))
 

@@ -42,7 +42,7 @@ cut (suc n) (x ∷ a) b (y ∷ c) d e l m =
       others = r.others;
     }
 
--- no take has returned Closed of an open queue
+-- no take has returned Closed for an open queue
 open_not_told : (take : TakeTurn) (q : Queue) → q.closed ≡ false → FitsTake take FoundClosed q → ⊥
 open_not_told Rests q o f = f
 open_not_told (Waits wanted before ended) q o (e, f) = cc

@@ -20,7 +20,7 @@ behind : (xs ys zs : List ℕ) → xs ++ ys ≡ xs ++ zs → ys ≡ zs
 behind [] ys zs e = e
 behind (x ∷ xs) ys zs e = behind xs ys zs (let f : xs ++ ys ≡ xs ++ zs = cc in f)
 
--- the end of a take that took these items, and found fewer than the number that goes with how many more it asked for
+-- the end of a take that took these items, and found fewer than the number that belongs to how many more it asked for
 record Ends (e : Event) (took : List ℕ) (lack : ℕ → ℕ) : Type 0 where
   ends : (c c' : Consumer) → ConsumerStep c (Happens e) c' → (left : ℕ) × (c ≡ Taking (lack left) took left) × (c' ≡ Resting)
   idle : (p p' : Producer) → ProducerStep p (Happens e) p' → p' ≡ p

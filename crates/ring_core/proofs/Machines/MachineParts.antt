@@ -38,7 +38,7 @@ scanning shape side old new false is one e f =
 
 -- ---- the count
 
--- if nothing is due of a unary write, its bit is set and those below are clear
+-- if nothing of a unary write is due, its bit is set and those below are clear
 set_there : (bits : ℕ → Bool) (v : ℕ) (b : Bool) → bits v ≡ b → unary_phrase bits v ≡ [] → bits v ≡ true
 set_there bits v true e none = e
 set_there bits v false e none =

@@ -7,7 +7,7 @@ use Rattle.ring_seats.specs.Rule.{Stands, joint, list_of, putter_of, taker_of}
 use Rattle.ring_seats.proofs.Moves.{ring_empty}
 use Rattle.ring_seats.proofs.meetings.first_steppers.Goals as goal
 
--- at first both ends are in the history with no event
+-- at first both ends are in the empty history
 putter_starts : (shape : Shape) (v : View) → v ≡ putter_of (joint [] [] [] []) → Stands shape P (list_of P v) v.known
 putter_starts shape v is = subst (λ w. Stands shape P (list_of P w) w.known) (sym is) (record { history = []; ring = ring_empty shape; list_is = refl; begins = ([], refl) })
 
