@@ -1,10 +1,10 @@
 #!/bin/sh
 # The tests: the program's output and exit status on each example, and what it reports of random histories of queues and registers; failing system
-# calls; the launcher, tools/install, the packages, what is shipped for ARM64, the documents, the steps of docs/USING.md, some of record/; and each #[test],
-# without its proof. The program is the one that ./lamport_ring runs: the shipped one if it was built from these sources. With --prove it is first
-# built here with its proof. What cannot be tested here, for lack of the kit, Python, a C compiler, qemu or Wine, is skipped, and the end, or
-# the part itself, says so. ./gate does everything: every proof from nothing, also those of the tests, and the mutants. The last line is
-# `N passed, M failed`.
+# calls; the launcher, tools/install, the packages, what is shipped for ARM64 and for other systems, the documents, the steps of docs/USING.md, some
+# of record/; and each #[test], without its proof. The program is the one that ./lamport_ring runs: the shipped one if it was built from these
+# sources. With --prove it is first built here with its proof. What cannot be tested here, for lack of the kit, Python, a C compiler, qemu or Wine,
+# is skipped, and the end, or the part itself, says so. ./gate does everything: every proof from nothing, also those of the tests, and the mutants.
+# The last line is `N passed, M failed`.
 set -u
 name=test.sh
 started=$(date +%s)
@@ -121,6 +121,7 @@ if wait "$building"; then
         try_after_examples causes
         try_after_examples registers
         try_after_examples machines
+        try_after_examples ports
         try_after_examples packages
         if [ "$(compiler)" ]; then
             try_after_examples faults
