@@ -12,9 +12,9 @@ offers:
     audit.fault()                                                    None, or the words of the first fault
     audit.report().full                                              how many puts ended full
 
-It needs ring_calls.py beside it, and the library: that of load(PATH), of RING_AUDIT_LIB in the environment, or libring_audit.so.1 beside
-this file, in ../../../dist (on ARM64 in dist/aarch64-linux), or where the system has its libraries. The library is proved, this file is not;
-threads that share an Audit need a lock."""
+It needs ring_calls.py beside it, and the library: that of load(PATH), of RING_AUDIT_LIB in the environment, or libring_audit.so.1 (on macOS
+libring_audit.1.dylib, on Windows ring_audit.dll) beside this file, in the folder of ../../../dist for this machine, or where the system has
+its libraries. The library is proved, this file is not; threads that share an Audit need a lock."""
 import array
 import collections
 import ctypes
@@ -57,8 +57,9 @@ _State = _struct("_State", (_at, "offered"), (_size, "offered_room"), (_at, "tak
 # What audit --calls counts in a lawful recording; inside: surely at some moment, and at most.
 Report = collections.namedtuple("Report", "calls stored taken full empty nothing told inside overlapped open")
 _loaded = None
-# The place of the library in dist/, for each machine.
-_FOLDERS = {"x86_64": "", "aarch64": "aarch64-linux/"}
+# The place of the library in dist/, for each system and machine.
+_SHIPPED = {"Linux x86_64": "libring_audit.so.1", "Linux aarch64": "aarch64-linux/libring_audit.so.1", "Darwin x86_64": "x86_64-macos/libring_audit.1.dylib",
+            "Darwin arm64": "aarch64-macos/libring_audit.1.dylib", "Windows AMD64": "x86_64-windows/ring_audit.dll"}
 # How many calls there were in the lawful recordings of all rounds, and how many of them overlapped.
 _counted = [0, 0]
 
@@ -67,16 +68,16 @@ def load(path=None):
     """The library: at this path, or the one loaded before, or the first one of those listed at the top of this file."""
     global _loaded
     if path or not _loaded:
-        here = os.path.dirname(os.path.abspath(__file__))
-        machine = platform.machine()
-        beside = [f"{here}/libring_audit.so.1", f"{here}/../../../dist/{_FOLDERS.get(machine, 'none')}libring_audit.so.1"]
-        path = path or os.environ.get("RING_AUDIT_LIB") or next(filter(os.path.exists, beside), "libring_audit.so.1")
+        here, machine = os.path.dirname(os.path.abspath(__file__)), f"{platform.system()} {platform.machine()}"
+        shipped = _SHIPPED.get(machine, "none/libring_audit.so.1")
+        name = os.path.basename(shipped)
+        path = path or os.environ.get("RING_AUDIT_LIB") or next(filter(os.path.exists, (f"{here}/{name}", f"{here}/../../../dist/{shipped}")), name)
         try:
             library = ctypes.PyDLL(path)
         except OSError as error:
-            if machine in _FOLDERS:
+            if machine in _SHIPPED:
                 raise
-            raise OSError(f"{error} (dist/ has the library for Linux on {' and '.join(_FOLDERS)}, none for {machine})") from error
+            raise OSError(f"{error} (dist/ has the library for {', '.join(_SHIPPED)}, none for {machine})") from error
         sizes = (_u64 * 6)()
         library.ring_audit_layout.argtypes = [_at, _size]
         library.ring_audit_layout(sizes, 6)
