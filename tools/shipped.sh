@@ -84,6 +84,7 @@ runs_here() {
     say "$dist/lamport_ring does not run here: it needs Linux on $of_machine with glibc 2.34 or later, as Debian 12, Ubuntu 22.04 and RHEL 9 have"
     [ "$machine" = x86_64 ] || [ "$place" ] || say "dist/ has programs for Linux on x86-64 and on ARM64 (aarch64), none for $machine"
     say "here is $(uname -s) on $(uname -m) with $(getconf GNU_LIBC_VERSION 2>/dev/null || echo "no glibc")${told:+; it said: $(echo "$told" | head -n 1)}"
+    say "dist/README.md, Ports, has those for an older Linux on x86-64, for macOS and for Windows"
     return 1
 }
 
