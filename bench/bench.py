@@ -43,10 +43,7 @@ def overlapped(events):
 def random_bits(events):
     """Random accesses to random bits of the largest shape. Reads that a write overlaps return a random value."""
     pick = random.Random(1)
-    read_by = {
-        "P": [f"r{i}" for i in range(256)],
-        "C": [f"s{i}" for i in range(256)] + ["x"] + [f"c{j}.{i}" for j in range(64) for i in range(64)],
-    }
+    read_by = {"P": [f"r{i}" for i in range(256)], "C": [f"s{i}" for i in range(256)] + ["x"] + [f"c{j}.{i}" for j in range(64) for i in range(64)]}
     written_by = {"P": read_by["C"], "C": read_by["P"]}
     held = {bit: 0 for bits in read_by.values() for bit in bits} | {"s0": 1, "r0": 1}
     opened = {"P": None, "C": None}

@@ -82,8 +82,12 @@ def proved(folder, env):
 
 def usual(folder, env, found):
     kinds = [(kind, capacity) for kind, capacity in USUAL if kind in found or kind in ("seq_cst", "cached")]
-    commands = [[f"{folder}/crates/ring_rtrb/out/ring_rtrb", str(capacity), str(COUNT)] if kind == "rtrb" else
-                [f"{folder}/rings", kind, str(capacity), "0", "1", "1", str(COUNT)] for kind, capacity in kinds]
+    commands = [
+        [f"{folder}/crates/ring_rtrb/out/ring_rtrb", str(capacity), str(COUNT)]
+        if kind == "rtrb"
+        else [f"{folder}/rings", kind, str(capacity), "0", "1", "1", str(COUNT)]
+        for kind, capacity in kinds
+    ]
     times = list(zip(*[[through(command, env) for command in commands] for _ in range(RUNS)]))
     print("\n| Usual ring | Capacity | One by one |\n|---|---|---|")
     for (kind, capacity), each in zip(kinds, times):

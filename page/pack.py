@@ -21,7 +21,11 @@ EXAMPLES = os.path.join(TOP, "examples")
 SHIPPED = "lamport_ring.html"
 FIRST = ["new_old_inversion", "plain_path", "plain", "unary", "bit_always_written"]  # the first example of each kind of text
 LEFT_OUT = {  # scripts with too many events or letters for a picture; an item that is not a JavaScript number
-    "a_million_idle_letters", "a_million_letters_full", "items_999", "largest_shape"}
+    "a_million_idle_letters",
+    "a_million_letters_full",
+    "items_999",
+    "largest_shape",
+}
 STYLES = ["page", "large", "small", "print"]
 MAIN = "main.js"  # the script that starts the page
 WORKERS = ["worker.js", "lab_worker.js"]  # the scripts that start its workers
@@ -29,8 +33,13 @@ IMPORTED = re.compile(r'^import \{ ?([^}]*?) ?\} from "([^"]+)";\n', flags=re.M)
 EXPORTED = re.compile(r"^export ((?:async )?function\*? |const |class )([\w$]+)", flags=re.M)
 # The kinds of a text, and the suffixes of their files.
 MODES = {"trace": ".trace", "script": ".json", "calls": ".calls", "register": ".reg", "lab": ".js"}
-FOLDERS = {"trace": EXAMPLES, "script": EXAMPLES, "calls": os.path.join(EXAMPLES, "calls"), "register": os.path.join(EXAMPLES, "registers"),
-           "lab": os.path.join(PAGE, "constructions")}
+FOLDERS = {
+    "trace": EXAMPLES,
+    "script": EXAMPLES,
+    "calls": os.path.join(EXAMPLES, "calls"),
+    "register": os.path.join(EXAMPLES, "registers"),
+    "lab": os.path.join(PAGE, "constructions"),
+}
 TAUGHT = ["calls", "register"]  # of these kinds the page has only the texts that are lessons
 BOUND = re.compile(r"^(// \d+ writes?, \d+ reads?): .*$", flags=re.M)  # the line of a construction with its bound and the result within it
 UNTAUGHT = "Constructions"  # the chapter of the constructions that no lesson names
@@ -80,7 +89,7 @@ def stories():
     with open(os.path.join(EXAMPLES, "README.md"), encoding="utf-8") as file:
         text = file.read()
     at, past = text.index("\n## Calls\n"), text.index("\n## Registers\n")
-    runs, calls, registers = paragraphs(text[text.index("\n## Scripts\n"):at]), paragraphs(text[at:past]), paragraphs(text[past:])
+    runs, calls, registers = paragraphs(text[text.index("\n## Scripts\n") : at]), paragraphs(text[at:past]), paragraphs(text[past:])
     # lawful calls are described by their line in the table
     for name, words in re.findall(r"^\| `(\w+)` \| lawful: (.*) \|$", text[at:past], flags=re.M):
         calls[name] = [words[0].upper() + words[1:] + ".", *calls.get(name, [])]
@@ -107,7 +116,7 @@ def paragraphs(text):
         head = re.match(r"((?:\*\*[\w/]+\*\*(?:, )?)+): ", part)
         if head:
             names = re.findall(r"\*\*([\w/]+)\*\*", head[1])
-            part = part[head.end():]
+            part = part[head.end() :]
         elif part.startswith(("#", "|")):
             names = []
         for name in names if part else []:
@@ -117,7 +126,16 @@ def paragraphs(text):
 
 def lesson(said, chapter, mode, name):
     """A lesson without its own words: its title is the name of its example, its story what is said of that."""
-    return {"chapter": chapter, "mode": mode, "name": name, "title": name.replace("_", " "), "story": said.get((mode, name), []), "play": "", "question": "", "answer": ""}
+    return {
+        "chapter": chapter,
+        "mode": mode,
+        "name": name,
+        "title": name.replace("_", " "),
+        "story": said.get((mode, name), []),
+        "play": "",
+        "question": "",
+        "answer": "",
+    }
 
 
 def lessons():
@@ -160,7 +178,7 @@ def course():
         text = file.read()
     table = re.search(r"^\| Clause \|.*\n\|[-|]*\|\n((?:\|.*\n)*)", text, flags=re.M)[1]
     plain = [[re.sub(r"[`*]", "", cell).strip() for cell in row.strip("|\n").split(" | ")] for row in table.splitlines()]
-    before = text[:text.index("\n## The law of the ring")]
+    before = text[: text.index("\n## The law of the ring")]
     commands = [re.sub("^    ", "", it, flags=re.M).rstrip() for it in re.findall(r"(?:^    .*\n)+", before, flags=re.M)]
     boards = {"the law": {"title": "The law of the ring", "rows": plain}, "the commands": {"title": "Two threads, and a recording", "commands": commands}}
     for minutes, shown, say in re.findall(r"^\| (\d+–\d+) \| (.*?) \| (.*) \|$", text, flags=re.M):
@@ -270,7 +288,7 @@ def joined(name, *others):
     for its, text in {each: text for main in (name, *others) for each, text in scripts_of(main).items()}.items():
         if len(EXPORTED.findall(text)) != len(re.findall(r"^export\b", text, flags=re.M)):
             sys.exit(f"page/src/{its}: an export is neither a function, nor a const, nor a class")
-        body = IMPORTED.sub(lambda it, its=its: f"const {{ {it[1]} }} = use(\"{os.path.normpath(os.path.join(os.path.dirname(its), it[2]))}\");\n", text)
+        body = IMPORTED.sub(lambda it, its=its: f'const {{ {it[1]} }} = use("{os.path.normpath(os.path.join(os.path.dirname(its), it[2]))}");\n', text)
         body = re.sub(r"^ +", "", re.sub(r"^ *//.*\n", "", body, flags=re.M), flags=re.M)
         exports = ", ".join(it for _, it in EXPORTED.findall(text))
         parts.append(f'scripts["{its}"] = () => {{\n{EXPORTED.sub(lambda it: it[1] + it[2], body)}return {{ {exports} }};\n}};')
@@ -280,7 +298,12 @@ def joined(name, *others):
 def unused():
     """The scripts that neither the page nor one of its workers imports."""
     used = {it for main in (MAIN, *WORKERS) for it in scripts_of(main)}
-    there = {os.path.relpath(os.path.join(folder, it), SOURCES) for folder, _, files in os.walk(SOURCES) for it in files if it.endswith(".js") and not folder.startswith(MADE)}
+    there = {
+        os.path.relpath(os.path.join(folder, it), SOURCES)
+        for folder, _, files in os.walk(SOURCES)
+        for it in files
+        if it.endswith(".js") and not folder.startswith(MADE)
+    }
     return sorted(there - used)
 
 

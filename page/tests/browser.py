@@ -26,8 +26,21 @@ PAGE = os.path.dirname(os.path.dirname(os.path.abspath(__file__)))
 TOP = os.path.dirname(PAGE)
 EXAMPLES = os.path.join(TOP, "examples")
 TITLE = "Histories of safe bits"  # until the page has read its first text
-KEYS = {"left": "\ue012", "right": "\ue014", "up": "\ue013", "down": "\ue015", "escape": "\ue00c", "enter": "\ue007", "home": "\ue011", "end": "\ue010", "tab": "\ue004", "shift": "\ue008", "ctrl": "\ue009",
-        "pageup": "\ue00e", "pagedown": "\ue00f"}
+KEYS = {
+    "left": "\ue012",
+    "right": "\ue014",
+    "up": "\ue013",
+    "down": "\ue015",
+    "escape": "\ue00c",
+    "enter": "\ue007",
+    "home": "\ue011",
+    "end": "\ue010",
+    "tab": "\ue004",
+    "shift": "\ue008",
+    "ctrl": "\ue009",
+    "pageup": "\ue00e",
+    "pagedown": "\ue00f",
+}
 counts = Counting(most=400)
 same = counts.same
 
@@ -164,8 +177,10 @@ class Browser:
 
 def chromium(folder):
     """A Chromium that saves files into this folder."""
-    found = {name: next(filter(None, map(shutil.which, names)), None) for name, names in
-             {"chromium": ("chromium", "chromium-browser", "google-chrome"), "chromium-driver": ("chromedriver",)}.items()}
+    found = {
+        name: next(filter(None, map(shutil.which, names)), None)
+        for name, names in {"chromium": ("chromium", "chromium-browser", "google-chrome"), "chromium-driver": ("chromedriver",)}.items()
+    }
     if not all(found.values()):
         stop(f"{' and '.join(name for name, path in found.items() if not path)} missing: on Debian, apt-get install chromium chromium-driver")
     options = webdriver.ChromeOptions()
@@ -231,7 +246,9 @@ class Page:
 
     def report(self):
         """The report beside the picture, in the format and order of a .report file."""
-        got = self.browser.run("return Object.fromEntries([...document.querySelectorAll('#summary dt')].map(it => [it.textContent, it.nextSibling.textContent]))")
+        got = self.browser.run(
+            "return Object.fromEntries([...document.querySelectorAll('#summary dt')].map(it => [it.textContent, it.nextSibling.textContent]))"
+        )
         return "".join(f"{name} {got[name]}".rstrip() + "\n" for name in ("events", "put", "taken", "told", "full", "empty", "flicker"))
 
 

@@ -6,7 +6,13 @@ import collections
 import sys
 
 RINGS = ("", "count-before-cell", "no-second-scan", "small-modulus", "clears-first", "clears-upwards")
-TWICE, NEVER, EMPTY, CLOSED, OTHER = ("take an item twice", "take what was never put", "get Empty with an item inside", "get Closed with an item inside", "another fault")
+TWICE, NEVER, EMPTY, CLOSED, OTHER = (
+    "take an item twice",
+    "take what was never put",
+    "get Empty with an item inside",
+    "get Closed with an item inside",
+    "another fault",
+)
 # The key for a side's next event, and the key for all events up to the end of its call.
 KEYS = {("P", False): "p", ("C", False): "c", ("P", True): "P", ("C", True): "C"}
 
@@ -189,7 +195,7 @@ class Ring:
         for item in reply:
             if item in taken:
                 return TWICE
-            if item not in self.items[len(taken):offered]:
+            if item not in self.items[len(taken) : offered]:
                 return NEVER
             if item != self.items[len(taken)]:
                 return OTHER

@@ -11,7 +11,10 @@ from test_calls import flags, give, order, recordings, reported
 from test_use import seen, words
 
 PROGRAM = os.path.join(TOP, "dist", "lamport_ring")
-STEPPED, OPENED = 60, 1  # limits for a million lines: milliseconds for a step, the best of several tries (a leap may take twice that); seconds to open them (times slack)
+STEPPED, OPENED = (
+    60,
+    1,
+)  # limits for a million lines: milliseconds for a step, the best of several tries (a leap may take twice that); seconds to open them (times slack)
 STEP_KEYS = ("ArrowLeft", "ArrowRight", "n", "b")
 MOST_MB = 300  # of memory private to the tab
 
@@ -50,7 +53,19 @@ def test_ways(page, same, _):
     """A recording opens at its fault; keys and fields move from there to other lines."""
     page.open(shown(LOST))
     same("it opens at the fault", [place(page), page.hash()], [11, "#" + urllib.parse.urlencode({"recording": LOST})])
-    for keys, line in [(["a"], 6), (["x"], 11), (["b"], 10), (["b"], 7), (["n", "n"], 11), (["end"], 15), (["x"], 11), (["home"], 2), (["b"], 2), (["n"], 4), (["left"], 3)]:
+    for keys, line in [
+        (["a"], 6),
+        (["x"], 11),
+        (["b"], 10),
+        (["b"], 7),
+        (["n", "n"], 11),
+        (["end"], 15),
+        (["x"], 11),
+        (["home"], 2),
+        (["b"], 2),
+        (["n"], 4),
+        (["left"], 3),
+    ]:
         press(page, *keys)
         same(f"after {keys}", place(page), line)
     again = "queue 4\nP put 1\nP stored\nC take\nC item 1\nP put 2\nC take\nC item 1\n"
@@ -82,8 +97,11 @@ def test_ways(page, same, _):
     page.browser.run("document.querySelector('#picture [data-line=\"6\"]').dispatchEvent(new MouseEvent('click', {bubbles: true}))")
     same("a bar that is clicked", [place(page), words(page, "bits")], [6, "calls: lawful"])
     keys = page.browser.run("return Object.fromEntries([...document.querySelectorAll('#help dt')].map(it => [it.textContent, it.nextSibling.textContent]))")
-    same("the keys are in the help", [keys.get("X, A"), keys.get("N, B") is not None, keys.get("G, /") is not None],
-         ["of recorded calls: the line at fault, and the one that contradicts it", True, True])
+    same(
+        "the keys are in the help",
+        [keys.get("X, A"), keys.get("N, B") is not None, keys.get("G, /") is not None],
+        ["of recorded calls: the line at fault, and the one that contradicts it", True, True],
+    )
     page.open("calls=plain")
     same("no fault to go to", [seen(page, "tofault"), seen(page, "shrink"), seen(page, "callon"), place(page)], [False, False, True, 9])
     page.open("example=plain_path")
@@ -98,7 +116,7 @@ def test_reports(page, same, _):
             continue
         line = int(verdict.split()[2][:-1])
         page.write(text)
-        before = audited("".join(text.splitlines(True)[:line - 1]))
+        before = audited("".join(text.splitlines(True)[: line - 1]))
         same(f"{name}: the report before its fault", ["lawful", *rows(page), words(page, "reported")], [*before.splitlines(), f"before line {line}"])
     page.open(shown(LOST) + "&shown=6")
     same("at a line before it", [rows(page), words(page, "reported")], [audited("".join(LOST.splitlines(True)[:7])).splitlines()[1:], ""])
@@ -111,15 +129,47 @@ def filled(count, first=0):
 
 
 HINTED = [  # a recording with a fault, how a hint begins, and the edit that its button makes
-    ("queue 8\n" + filled(7) + "P put 7\nP full\nC take\nC item 0\n" + filled(1, 7) + "P put 8\nP full\n", "It held 7, not the 8 of its first line: try queue 7. Then it is lawful.", ("queue 8", "queue 7")),
+    (
+        "queue 8\n" + filled(7) + "P put 7\nP full\nC take\nC item 0\n" + filled(1, 7) + "P put 8\nP full\n",
+        "It held 7, not the 8 of its first line: try queue 7. Then it is lawful.",
+        ("queue 8", "queue 7"),
+    ),
     ("queue 8\n" + filled(10), "It held 10, not the 8 of its first line: try queue 10. Then it is lawful.", ("queue 8", "queue 10")),
-    ("queue 4\n" + filled(4) + "C take\nC item 0\nP put 4\nP full\n", "It may report full with 3 inside, and holds 4: queue 3 4 allows that. Then it is lawful.", ("queue 4", "queue 3 4")),
-    ("queue 8\n" + filled(6) + "P put 6 7 8\nP full\n", "This put of 3 is all or nothing: P short says that there was not room for all. Then it is lawful.", ("P full", "P short")),
-    ("queue 8\nP put 1\nP put 2\nP stored\nP stored\nC take\nC item 1\n", "A put begins in line 3 while the call of line 2 has not ended: two producers? A recording has one. Then it is lawful.", ("P put 2\nP stored\n", "")),
-    ("queue 8\nC take\nC take\nC empty\nC empty\nP put 1\nP stored\n", "A take begins in line 3 while the call of line 2 has not ended: two consumers? A recording has one. Then it is lawful.", ("C take\nC empty\n", "")),
-    ("queue 8\nP put 1 2\nP stored\nC take 2\nC item 1\n", "This take stops before all that is inside: C some says what it took, and not why not more. Then it is lawful.", ("C item", "C some")),
-    ("queue 8\nP put 1 2\nP stored 1\nP put 2\nP stored\n", "This put stops before the queue is full: P some says how many were stored, and not why not more. Then it is lawful.", ("P stored 1", "P some 1")),
-    ("queue 8\nP close\nP closed\nC take\nC empty\n", "This take found the queue empty and closed: C closed says so. Then it is lawful.", ("C empty", "C closed")),
+    (
+        "queue 4\n" + filled(4) + "C take\nC item 0\nP put 4\nP full\n",
+        "It may report full with 3 inside, and holds 4: queue 3 4 allows that. Then it is lawful.",
+        ("queue 4", "queue 3 4"),
+    ),
+    (
+        "queue 8\n" + filled(6) + "P put 6 7 8\nP full\n",
+        "This put of 3 is all or nothing: P short says that there was not room for all. Then it is lawful.",
+        ("P full", "P short"),
+    ),
+    (
+        "queue 8\nP put 1\nP put 2\nP stored\nP stored\nC take\nC item 1\n",
+        "A put begins in line 3 while the call of line 2 has not ended: two producers? A recording has one. Then it is lawful.",
+        ("P put 2\nP stored\n", ""),
+    ),
+    (
+        "queue 8\nC take\nC take\nC empty\nC empty\nP put 1\nP stored\n",
+        "A take begins in line 3 while the call of line 2 has not ended: two consumers? A recording has one. Then it is lawful.",
+        ("C take\nC empty\n", ""),
+    ),
+    (
+        "queue 8\nP put 1 2\nP stored\nC take 2\nC item 1\n",
+        "This take stops before all that is inside: C some says what it took, and not why not more. Then it is lawful.",
+        ("C item", "C some"),
+    ),
+    (
+        "queue 8\nP put 1 2\nP stored 1\nP put 2\nP stored\n",
+        "This put stops before the queue is full: P some says how many were stored, and not why not more. Then it is lawful.",
+        ("P stored 1", "P some 1"),
+    ),
+    (
+        "queue 8\nP close\nP closed\nC take\nC empty\n",
+        "This take found the queue empty and closed: C closed says so. Then it is lawful.",
+        ("C empty", "C closed"),
+    ),
 ]
 
 
@@ -179,16 +229,22 @@ def test_shrink(page, same, folder):
         same(f"the small recording of {name}", [without_numbers(verdict), verdict.split()[2]], [without_numbers(whole), f"{small.count(chr(10))}:"])
         with open(os.path.join(folder, "whole.calls"), "w", encoding="ascii") as file:
             file.write(texts[name])
-        same(f"that of record/shrink, of {name}", small, subprocess.run([os.path.join(TOP, "record", "shrink"), file.name], capture_output=True, text=True, check=False).stdout)
+        same(
+            f"that of record/shrink, of {name}",
+            small,
+            subprocess.run([os.path.join(TOP, "record", "shrink"), file.name], capture_output=True, text=True, check=False).stdout,
+        )
         same(f"it is quick, of {name}", took < 5000, True)
     print(f"shrink: {len(found)} recordings, {max(it for it, _ in found.values()):.0f} ms at most, of 100,000 lines {found['of 100,000 lines'][0]:.0f} ms")
     # as a user does it, in the worker
     page.write(texts["again"])
-    meanwhile = page.browser.run("""const it = document.getElementById("shrink"), shown = () => [it.textContent, document.getElementById("shrunk").textContent];
+    meanwhile = page.browser.run(
+        """const it = document.getElementById("shrink"), shown = () => [it.textContent, document.getElementById("shrunk").textContent];
         it.click();
         const before = shown();
         it.click();
-        return before""")
+        return before"""
+    )
     same("it can be stopped", meanwhile, ["Stop", "looking .."])
     time.sleep(0.3)
     same("it is stopped", [words(page, "shrink"), words(page, "shrunk")], ["Shrink", ""])
@@ -213,7 +269,9 @@ def test_shrink(page, same, folder):
     page.browser.run("[...document.querySelectorAll('#shrunk button')].find(it => it.textContent === 'Show').click()")
     same("it is shown, with a link", [page.text(), page.linked("recording"), words(page, "shrunk")], [small, small, ""])
     page.browser.back()
-    page.browser.until("Back brings the whole", "return document.getElementById('place').textContent.endsWith(arguments[0])", f"/ {texts['of 100,000 lines'].count(chr(10))}")
+    page.browser.until(
+        "Back brings the whole", "return document.getElementById('place').textContent.endsWith(arguments[0])", f"/ {texts['of 100,000 lines'].count(chr(10))}"
+    )
 
 
 def test_from_disk(page, same, _):
@@ -255,7 +313,9 @@ return {wrong, count};
 
 def inside(page):
     """The items in the panel; those perhaps inside are in brackets."""
-    return page.browser.run("return [...document.querySelectorAll('#inside .row')].map(row => [...row.querySelectorAll('.part')].map(it => it.classList.contains('open') ? `(${it.textContent})` : it.textContent).join(' '))")
+    return page.browser.run(
+        "return [...document.querySelectorAll('#inside .row')].map(row => [...row.querySelectorAll('.part')].map(it => it.classList.contains('open') ? `(${it.textContent})` : it.textContent).join(' '))"
+    )
 
 
 def test_inside(page, same, _):
@@ -264,7 +324,17 @@ def test_inside(page, same, _):
     found = page.browser.wait(COUNTED, {name: text for name, text, _ in recordings()})
     same("what is counted inside", [found["wrong"], found["count"] > 250], [[], True])
     page.open(shown(LOST))
-    for line, rows_ in [(2, ["0 to 1", "(1)"]), (3, ["0 to 1", "(1)"]), (4, ["0 to 1", "(1)"]), (5, ["0", "–"]), (7, ["1", "2"]), (8, ["1 to 2", "2 (3)"]), (9, ["0 to 2", "(2) (3)"]), (11, ["1 to 2", "(2) 3"]), (15, ["1 to 2", "(2) 3"])]:
+    for line, rows_ in [
+        (2, ["0 to 1", "(1)"]),
+        (3, ["0 to 1", "(1)"]),
+        (4, ["0 to 1", "(1)"]),
+        (5, ["0", "–"]),
+        (7, ["1", "2"]),
+        (8, ["1 to 2", "2 (3)"]),
+        (9, ["0 to 2", "(2) (3)"]),
+        (11, ["1 to 2", "(2) 3"]),
+        (15, ["1 to 2", "(2) 3"]),
+    ]:
         page.browser.run("const it = document.getElementById('shown'); it.value = arguments[0]; it.dispatchEvent(new Event('input'))", line - 1)
         same(f"inside at line {line}", inside(page), rows_)
     page.write("queue\nP put " + " ".join(map(str, range(100, 140))) + "\nP stored\nP close\nP closed\n")
@@ -275,8 +345,16 @@ def test_inside(page, same, _):
     def drag(*parts):
         page.browser.drag([(round(box[0] + box[2] * part), round(box[1] + box[3] / 2)) for part in parts])
 
-    same("the strip", [words(page, "strip"), page.browser.run("return ['fault', 'against', 'cursor'].map(it => Math.round(Number(document.querySelector(`#strip .${it}`).getAttribute('x')) / 1000 * 15 + 0.7))")],
-         ["lines 1 to 15 of 15 · up to 2 inside", [11, 6, 11]])
+    same(
+        "the strip",
+        [
+            words(page, "strip"),
+            page.browser.run(
+                "return ['fault', 'against', 'cursor'].map(it => Math.round(Number(document.querySelector(`#strip .${it}`).getAttribute('x')) / 1000 * 15 + 0.7))"
+            ),
+        ],
+        ["lines 1 to 15 of 15 · up to 2 inside", [11, 6, 11]],
+    )
     drag(6.5 / 15)
     same("a click on the strip", place(page), 7)
     long_ = "queue 5\n" + "".join(f"P put {i}\nP stored\n" + (f"C take\nC item {i}\n" if i > 3 else "") for i in range(100))
@@ -325,7 +403,11 @@ def test_long_orders(page, same, folder):
         file.write(text)
     give(page, file.name)
     some = order(page)
-    same("the order around its fault", [place(page), len(some) > 20, any(it.endswith(" in") for it in some), any(it.endswith(" out") for it in some)], [line, True, True, True])
+    same(
+        "the order around its fault",
+        [place(page), len(some) > 20, any(it.endswith(" in") for it in some), any(it.endswith(" out") for it in some)],
+        [line, True, True, True],
+    )
     page.write("queue\nC take\n" + "P put 1\nP stored\n" * 2000)
     same("no order if a call is always under way", [order(page), words(page, "bits")], [[], "calls: lawful"])
     same("the calls after the cursor are pale", page.count("#picture .later"), 0)
@@ -392,7 +474,9 @@ def test_sizes_of_recordings(page, same, folder):
             if kind == "at fault":
                 until_words(page, "shrunk", "fault: line")
             used = megabytes(page)
-            print(f"{lines} lines, {kind}: opened in {opened:.1f} s; a step {max(took[key] for key in STEP_KEYS):.0f} ms, a leap {max(took.values()):.0f} ms; {used} MB")
+            print(
+                f"{lines} lines, {kind}: opened in {opened:.1f} s; a step {max(took[key] for key in STEP_KEYS):.0f} ms, a leap {max(took.values()):.0f} ms; {used} MB"
+            )
             same(f"{lines} lines, {kind}: opened", opened < OPENED * slack(), True)
             same(f"{lines} lines, {kind}: steps", {key: it for key, it in took.items() if it > slack() * STEPPED * (1 if key in STEP_KEYS else 2)}, {})
             same(f"{lines} lines, {kind}: memory", used < MOST_MB, True)

@@ -40,17 +40,33 @@ def test_compare(page, same, _):
     same("the kept one", [head(page, "underhead"), flags_under(page)], [["recording", verdict(LOST), "15 lines", "kept"], flagged])
     same("the same one is marked as such", [head(page, "upper")[:3], "open, paste" in head(page, "upper")[3]], [["recording", verdict(LOST), "15 lines"], True])
     page.write(OTHER)
-    same("another under it", [head(page, "upper"), head(page, "underhead")[1], words(page, "bits")], [["recording", verdict(OTHER), "15 lines"], verdict(LOST), f"calls: {verdict(OTHER)}"])
+    same(
+        "another under it",
+        [head(page, "upper"), head(page, "underhead")[1], words(page, "bits")],
+        [["recording", verdict(OTHER), "15 lines"], verdict(LOST), f"calls: {verdict(OTHER)}"],
+    )
     same("each has its own flags", [flags(page), flags_under(page)], [[], flagged])
     same("it is no part of the link", page.hash(), "#" + urllib.parse.urlencode({"recording": OTHER}))
     before = under(page)
     press(page, "left", "left")
     same("a step", [place(page), under(page) == before, head(page, "upper")[1]], [13, True, verdict(OTHER)])
     page.click("swap")
-    same("they swap places", [page.text(), head(page, "upper")[1], head(page, "underhead")[1], flags(page), place(page)], [LOST, verdict(LOST), verdict(OTHER), flagged, 11])
-    same("a lawful one is at its end", page.browser.run("return document.querySelectorAll('#under [data-line]').length"), OTHER.count("P put") + OTHER.count("take"))
+    same(
+        "they swap places",
+        [page.text(), head(page, "upper")[1], head(page, "underhead")[1], flags(page), place(page)],
+        [LOST, verdict(LOST), verdict(OTHER), flagged, 11],
+    )
+    same(
+        "a lawful one is at its end",
+        page.browser.run("return document.querySelectorAll('#under [data-line]').length"),
+        OTHER.count("P put") + OTHER.count("take"),
+    )
     page.write("queue\nP put 1\n\n")
-    same("of a text that is refused", [head(page, "upper")[1].startswith("refused: "), seen(page, "under"), page.browser.run("return document.getElementById('swap').disabled")], [True, True, True])
+    same(
+        "of a text that is refused",
+        [head(page, "upper")[1].startswith("refused: "), seen(page, "under"), page.browser.run("return document.getElementById('swap').disabled")],
+        [True, True, True],
+    )
     page.write(LOST)
     page.click("shrink")
     until_words(page, "shrunk", "lines: fault")
@@ -91,7 +107,12 @@ def test_views(page, same, folder):
     same("sheets of paper", printed(page, 8.27, 11.69).count(b"/Type /Page\n"), 1)
     resize(page, 718, 1046)
     media(page, "print")
-    same("on paper", [seen(page, it) for it in (*PARTS, "swap")] + [page.browser.run("return document.querySelector('#under svg').getBoundingClientRect().bottom <= innerHeight")], [True, True, True, False, True])
+    same(
+        "on paper",
+        [seen(page, it) for it in (*PARTS, "swap")]
+        + [page.browser.run("return document.querySelector('#under svg').getBoundingClientRect().bottom <= innerHeight")],
+        [True, True, True, False, True],
+    )
     media(page)
     resize(page, *PHONE)
     page.browser.run("dispatchEvent(new Event('resize'))")

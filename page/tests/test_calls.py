@@ -19,7 +19,11 @@ def recordings():
 def reported(page):
     """What the page reports of a recording, as the command prints it: without the report of the lines before a fault."""
     first = words(page, "bits").removeprefix("calls: ")
-    rows = [] if words(page, "reported") else page.browser.run("return [...document.querySelectorAll('#summary div')].map(it => [it.dataset.name, it.lastChild.textContent].join(' '))")
+    rows = (
+        []
+        if words(page, "reported")
+        else page.browser.run("return [...document.querySelectorAll('#summary div')].map(it => [it.dataset.name, it.lastChild.textContent].join(' '))")
+    )
     return "\n".join([first, *rows]) + "\n"
 
 
@@ -59,13 +63,17 @@ def test_findings(page, same, _):
         against = [word for word in verdict.splitlines()[0].split("line ")[2:3] if line]
         same(f"calls {name}: the flags", len(flags(page)), (line > 0) + len(against))
         for number in (int("".join(it for it in word if it.isdigit())) for word in [it.split()[0] for it in against]):
-            same(f"calls {name}: what contradicts", [flags(page)[0], words(page, "why").startswith(f"contradicted by line {number}: {lines[number - 1]}")], [f"line {number}: {lines[number - 1]}", True])
+            same(
+                f"calls {name}: what contradicts",
+                [flags(page)[0], words(page, "why").startswith(f"contradicted by line {number}: {lines[number - 1]}")],
+                [f"line {number}: {lines[number - 1]}", True],
+            )
     page.write("queue 8\nP put 1\nP put 2\nC take\nP stored\n")
     page.browser.press("end")
     same("a call that begins in another", titles(page), ["P put 1, from line 2, not ended", "P put 2: stored, lines 3 to 5", "C take, from line 4, under way"])
     page.write("queue 8\nP put 1\nC empty\n")
     same("an end of no call", titles(page), ["P put 1, from line 2, under way", "C empty, line 3: ends no call"])
-    most = 2 ** 64 - 1
+    most = 2**64 - 1
     page.write(f"queue {most}\nP put {most} {most - 1}\nC take {most}\nC item {most} {most - 2}\n")
     same("the largest numbers", reported(page), f"fault: line 4: item {most - 2} was not inside; item {most - 1} of line 2 is next\n")
     page.write(f"queue {most + 1}\n")
@@ -74,15 +82,21 @@ def test_findings(page, same, _):
 
 def test_long_cause(page, same, _):
     """The words of a cause with 64-bit numbers are shown whole, in the verdict and in the flag, which is inside the picture."""
-    most = 2 ** 64 - 1
+    most = 2**64 - 1
     page.open("calls=plain")
     page.write(f"queue {most}\nP put {most}\nP stored\nC take\nC item {most}\nP put {most - 1}\nC take\nC item {most}\n")
     cause = f"item {most} comes again, it was taken at line 5; item {most - 1} of line 6 is next"
     same("a long cause", reported(page), f"fault: line 8: {cause}\n")
     same("its flags", flags(page), [f"line 5: C item {most}", f"line 8: {cause}"])
     same("its line", words(page, "why"), f"contradicted by line 5: C item {most}, the end of the call of line 4")
-    same("its flag lies in the picture", page.browser.run("""const all = document.querySelector("#picture svg").getBoundingClientRect();
-        return [...document.querySelectorAll("#picture rect.flag, #picture .flagwords")].map(it => it.getBoundingClientRect()).every(it => it.left >= all.left && it.right <= all.right)"""), True)
+    same(
+        "its flag lies in the picture",
+        page.browser.run(
+            """const all = document.querySelector("#picture svg").getBoundingClientRect();
+        return [...document.querySelectorAll("#picture rect.flag, #picture .flagwords")].map(it => it.getBoundingClientRect()).every(it => it.left >= all.left && it.right <= all.right)"""
+        ),
+        True,
+    )
     same("words on words", page.browser.run(COLLISIONS), [])
 
 
@@ -119,8 +133,12 @@ def test_orders(page, same, _):
     found = page.browser.wait(ORDERS, {name: text for name, text, _ in recordings()})
     same("orders of the operations", found["wrong"], [])
     same("there are some", [found["operations"] > 100, found["turned"] > 0], [True, True])
-    for name, words_ in [("overlapped", ["5 in", "5 out", "found fewer", "6 in"]), ("pending_put_taken", ["1 in", "1 out"]), ("put_after_close", ["close", "found closed", "close"]),
-                         ("order", ["1 in", "2 in"])]:
+    for name, words_ in [
+        ("overlapped", ["5 in", "5 out", "found fewer", "6 in"]),
+        ("pending_put_taken", ["1 in", "1 out"]),
+        ("put_after_close", ["close", "found closed", "close"]),
+        ("order", ["1 in", "2 in"]),
+    ]:
         page.write(text_of(os.path.join(EXAMPLES, "calls", f"{name}.calls")))
         same(f"the order of {name}", order(page), words_)
 
@@ -135,9 +153,21 @@ def test_some(page, same, _):
     page.open("calls=plain")
     page.write(SOME)
     same("some: its verdict", reported(page), SOME_REPORTED)
-    same("some: its queue", page.browser.run("return document.querySelector('#picture .title').textContent"), "a queue that may be full at any time, and holds 4 at most")
-    same("some: its bars", titles(page), ["P put 5 6 7: some 2, lines 2 to 4", "C take 3: some 5 6, lines 3 to 5", "P put 8: some 1, lines 6 to 7", "C take 2: some 8, lines 8 to 9"])
-    same("some: words in them", page.browser.run("return [...document.querySelectorAll('#picture .says')].map(it => it.textContent)"), ["some 2", "some 5 6", "some 1", "some 8"])
+    same(
+        "some: its queue",
+        page.browser.run("return document.querySelector('#picture .title').textContent"),
+        "a queue that may be full at any time, and holds 4 at most",
+    )
+    same(
+        "some: its bars",
+        titles(page),
+        ["P put 5 6 7: some 2, lines 2 to 4", "C take 3: some 5 6, lines 3 to 5", "P put 8: some 1, lines 6 to 7", "C take 2: some 8, lines 8 to 9"],
+    )
+    same(
+        "some: words in them",
+        page.browser.run("return [...document.querySelectorAll('#picture .says')].map(it => it.textContent)"),
+        ["some 2", "some 5 6", "some 1", "some 8"],
+    )
     same("some: the order", order(page), ["5 in", "6 in", "5 out", "6 out", "8 in", "8 out"])
     page.write(SOME.replace("P some 2", "P stored 2").replace("C some 5 6", "C item 5 6"))
     same("the order if they say why", order(page), ["no room", "found fewer", "5 in", "6 in", "5 out", "6 out", "8 in", "8 out"])
@@ -158,8 +188,11 @@ def test_cut(page, same, folder):
     page.open("calls=plain")
     same("not cut", [page.verdicts()[1], reported(page).splitlines()[-1]], ["", "open 0"])
     page.write(text)
-    same("cut: its verdicts", [page.verdicts(), page.browser.run("return [document.getElementById('ring').className, document.title]")],
-         [["calls: lawful", said], ["dim", f"calls: lawful, {said}"]])
+    same(
+        "cut: its verdicts",
+        [page.verdicts(), page.browser.run("return [document.getElementById('ring').className, document.title]")],
+        [["calls: lawful", said], ["dim", f"calls: lawful, {said}"]],
+    )
     same("cut: its report", reported(page).splitlines()[-2:], ["open 1", "cut yes"])
     same("cut: its queue", [page.browser.run("return document.querySelector('#picture .title').textContent"), order(page)], ["a queue of 2", ["1 in"]])
     page.browser.run("document.getElementById('shown').focus()")
@@ -168,7 +201,11 @@ def test_cut(page, same, folder):
     page.write(text.removeprefix("cut "))
     same("the same, not cut", [page.verdicts(), reported(page).splitlines()[-1]], [["calls: lawful", ""], "open 1"])
     page.write("cut queue\nC take\nC closed\n")
-    same("cut, with a fault", [page.verdicts(), reported(page)], [["calls: fault: line 3: closed, but no close has begun", said], "fault: line 3: closed, but no close has begun\n"])
+    same(
+        "cut, with a fault",
+        [page.verdicts(), reported(page)],
+        [["calls: fault: line 3: closed, but no close has begun", said], "fault: line 3: closed, but no close has begun\n"],
+    )
     page.write("cut queue 2\nC take")
     same("cut, and refused", page.verdicts(), ["refused: calls line 2 is not a line of the format", ""])
     page.open("recording=" + urllib.parse.quote(text))
@@ -186,16 +223,28 @@ def test_steps(page, same, _):
     same("all of it", [words(page, "place"), words(page, "step")], ["line 7 / 7", "line 7: C empty, the end of the call of line 2"])
     for line in range(6, 0, -1):
         page.browser.press("left")
-        same(f"up to line {line}", [words(page, "place"), words(page, "bits"), page.hash()], [f"line {line} / 7", "calls: lawful", f"#calls=pending_take_gave_none&shown={line - 1}"])
+        same(
+            f"up to line {line}",
+            [words(page, "place"), words(page, "bits"), page.hash()],
+            [f"line {line} / 7", "calls: lawful", f"#calls=pending_take_gave_none&shown={line - 1}"],
+        )
     page.browser.press("right", "right")
     same("a call under way", titles(page), ["C take, from line 2, under way", "P put 1, from line 3, under way"])
     same("its report", reported(page).splitlines()[1::9], ["calls 2", "open 2"])
     page.browser.press("end")
     page.browser.run("document.querySelector('#picture [tabindex=\"0\"]').focus()")
     page.browser.press("up", "enter")
-    same("the line of a bar", page.browser.run("const it = document.getElementById('text'); return it.value.slice(it.selectionStart, it.selectionEnd)"), "P put 1")
+    same(
+        "the line of a bar",
+        page.browser.run("const it = document.getElementById('text'); return it.value.slice(it.selectionStart, it.selectionEnd)"),
+        "P put 1",
+    )
     page.browser.run("document.querySelector('#picture [data-line=\"2\"]').dispatchEvent(new MouseEvent('click', {bubbles: true}))")
-    same("a bar that is clicked", page.browser.run("const it = document.getElementById('text'); return it.value.slice(it.selectionStart, it.selectionEnd)"), "C take")
+    same(
+        "a bar that is clicked",
+        page.browser.run("const it = document.getElementById('text'); return it.value.slice(it.selectionStart, it.selectionEnd)"),
+        "C take",
+    )
 
 
 def test_links(page, same, folder):
@@ -222,10 +271,17 @@ def test_links(page, same, folder):
 
 def test_wrong_texts(page, same, _):
     page.open("calls=plain")
-    for text, why in [("", "there is no text: line 1 is to be: queue B, queue A B or queue, or one of these after cut"), ("shape 1 3 1\n", "it looks like a trace"), ("{", "it looks like a script"),
-                      ("queue 0\n", "line 1 is not: queue B, queue A B or queue, or one of these after cut"), ("cut\n", "line 1 is not: queue B, queue A B or queue, or one of these after cut"), ("queue 8\nP put 1 \n", "line 2 ends in a space"), ("queue 8\n\n", "line 2 is empty"),
-                      ("queue 8\nP put 01\n", "line 2 is none of the lines of recorded calls, with numbers below 2^64 that begin with no 0"),
-                      ("queue 8\nC take", "line 2 has no line feed at its end, or is not a line of the format")]:
+    for text, why in [
+        ("", "there is no text: line 1 is to be: queue B, queue A B or queue, or one of these after cut"),
+        ("shape 1 3 1\n", "it looks like a trace"),
+        ("{", "it looks like a script"),
+        ("queue 0\n", "line 1 is not: queue B, queue A B or queue, or one of these after cut"),
+        ("cut\n", "line 1 is not: queue B, queue A B or queue, or one of these after cut"),
+        ("queue 8\nP put 1 \n", "line 2 ends in a space"),
+        ("queue 8\n\n", "line 2 is empty"),
+        ("queue 8\nP put 01\n", "line 2 is none of the lines of recorded calls, with numbers below 2^64 that begin with no 0"),
+        ("queue 8\nC take", "line 2 has no line feed at its end, or is not a line of the format"),
+    ]:
         page.write(text)
         same(f"why {text!r} is refused", words(page, "why"), why)
         same(f"a sample beside {text!r}", page.browser.run("return document.querySelector('#sample dt').textContent"), "queue 4")
@@ -248,10 +304,16 @@ def test_views(page, same, _):
         resize(page, wide, high, scale)
         for theme in ("light", "dark"):
             for name in ("batch", "order", "full_with_room", "take_short_and_closed") if theme == "light" else ("order",):
-                page.open(f"calls={name}&theme={theme}" if name != "full_with_room" else "recording=" + urllib.parse.quote(text_of(os.path.join(EXAMPLES, "calls", "full_with_room.calls"))))
+                page.open(
+                    f"calls={name}&theme={theme}"
+                    if name != "full_with_room"
+                    else "recording=" + urllib.parse.quote(text_of(os.path.join(EXAMPLES, "calls", "full_with_room.calls")))
+                )
                 same(f"words on words, {wide} {theme} {name}", page.browser.run(COLLISIONS), [])
-                box = page.browser.run("""const it = document.getElementById("verdict").getBoundingClientRect();
-                    return [scrollX, scrollY, document.documentElement.scrollWidth <= innerWidth, it.top >= 0 && it.bottom <= innerHeight / 2 && it.height > 10]""")
+                box = page.browser.run(
+                    """const it = document.getElementById("verdict").getBoundingClientRect();
+                    return [scrollX, scrollY, document.documentElement.scrollWidth <= innerWidth, it.top >= 0 && it.bottom <= innerHeight / 2 && it.height > 10]"""
+                )
                 same(f"the verdict is seen first, {wide} {theme} {name}", box, [0, 0, True, True])
     resize(page)
 
@@ -270,8 +332,10 @@ def test_million(page, same, folder):
     near = ["queue 8"] + [line for i in range(250000) for line in (f"P put {i}", "C take", "P stored", f"C item {i}")]
     near[500000] = "C item 124000"
     far = ["queue", "P put 5", "P stored"] + ["C take", "C nothing"] * 499998 + ["C take", "C empty"]
-    for name, lines, finding, against in [("near.calls", near, "fault: line 500001: item 124000 comes again, it was taken at line 496005; item 124999 of line 499998 is next", 496005),
-                                          ("far.calls", far, "fault: line 1000001: empty, but item 5 was inside since line 3", 3)]:
+    for name, lines, finding, against in [
+        ("near.calls", near, "fault: line 500001: item 124000 comes again, it was taken at line 496005; item 124999 of line 499998 is next", 496005),
+        ("far.calls", far, "fault: line 1000001: empty, but item 5 was inside since line 3", 3),
+    ]:
         with open(os.path.join(folder, name), "w", encoding="utf-8") as file:
             file.write("\n".join(lines) + "\n")
         page.open("calls=plain")
@@ -296,10 +360,17 @@ def test_million(page, same, folder):
         print(f"{name}: {len(lines)} lines opened in {took:.1f} s, a step {stepped:.1f} s")
         same(f"{name}: within {SLOW} s", [took < SLOW, stepped < SLOW], [True, True])
     page.open("calls=plain")
-    page.browser.run("""const given = new DataTransfer();
+    page.browser.run(
+        """const given = new DataTransfer();
         given.setData("text/plain", arguments[0]);
-        document.getElementById("text").dispatchEvent(new ClipboardEvent("paste", {clipboardData: given, bubbles: true, cancelable: true}))""", "\n".join(near[:100001]) + "\n")
-    same("a long text that is pasted", [words(page, "bits"), words(page, "note")], ["calls: lawful", "lines 99602 to 100001 of 100001: too long to be edited here, and for a link"])
+        document.getElementById("text").dispatchEvent(new ClipboardEvent("paste", {clipboardData: given, bubbles: true, cancelable: true}))""",
+        "\n".join(near[:100001]) + "\n",
+    )
+    same(
+        "a long text that is pasted",
+        [words(page, "bits"), words(page, "note")],
+        ["calls: lawful", "lines 99602 to 100001 of 100001: too long to be edited here, and for a link"],
+    )
     page.open("calls=plain")
     same("a short one is edited", page.browser.run("return document.getElementById('text').readOnly"), False)
 

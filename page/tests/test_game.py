@@ -9,8 +9,13 @@ from browser import EXAMPLES, example
 
 WRONG = sorted(name.removesuffix(".json") for name in os.listdir(os.path.join(EXAMPLES, "wrong")) if name.endswith(".json"))
 # For each wrong ring the goal that its example reaches.
-GOALS = {"small_modulus": "take an item twice", "small_modulus__takes": "take what was never put", "count_before_cell": "take what was never put", "clears_first": "get Empty with an item inside",
-         "no_second_scan": "get Closed with an item inside"}
+GOALS = {
+    "small_modulus": "take an item twice",
+    "small_modulus__takes": "take what was never put",
+    "count_before_cell": "take what was never put",
+    "clears_first": "get Empty with an item inside",
+    "no_second_scan": "get Closed with an item inside",
+}
 AT_RANDOM = 10_000  # plays with all rules kept, for each goal
 
 FOUND = "return document.getElementById('found').textContent"
@@ -45,8 +50,11 @@ def test_wrong_rings(page, same, _):
         page.open(f"script={name}&goal={GOALS[name].replace(' ', '+')}")
         same(f"{name}: its goal is reached", page.browser.run(WON), "reached")
         same(f"{name}: the call at fault", page.count("#picture .call.fault"), 1)
-        same(f"{name}: a flag has the cause", without_numbers(page.browser.run("return [...document.querySelectorAll('#picture .flagwords')].at(-1).textContent")),
-             without_numbers(example(f"wrong/{name}.verdict").split(": ", 2)[2].strip()))
+        same(
+            f"{name}: a flag has the cause",
+            without_numbers(page.browser.run("return [...document.querySelectorAll('#picture .flagwords')].at(-1).textContent")),
+            without_numbers(example(f"wrong/{name}.verdict").split(": ", 2)[2].strip()),
+        )
         page.browser.run("const rule = document.getElementById('rule'); rule.value = ''; rule.dispatchEvent(new Event('change'))")
         same(f"{name}: by the ring itself", [page.browser.run(FOUND), page.browser.run(WON)], ["calls: lawful", "not reached"])
 
@@ -75,7 +83,11 @@ def test_hand(page, same, _):
     same("P is done", browser.run(MOVES)[0], "P is done")
     browser.press("p")
     same("and makes no event", browser.run(SCRIPT)["schedule"], "P7C2P")
-    same("the lesson stays", [browser.run("return document.getElementById('of').textContent"), browser.run("return document.getElementById('reset').hidden")], ["nothing", False])
+    same(
+        "the lesson stays",
+        [browser.run("return document.getElementById('of').textContent"), browser.run("return document.getElementById('reset').hidden")],
+        ["nothing", False],
+    )
     browser.run("document.getElementById('shown').value = 4; document.getElementById('shown').dispatchEvent(new Event('input'))")
     browser.press("c")
     same("a letter in the middle: those after it are dropped", browser.run(SCRIPT)["schedule"], "P4C")
@@ -194,15 +206,28 @@ INSIDE = """return [...document.querySelectorAll('#inside .row')].map(row => [..
 
 def test_inside(page, same, _):
     """The values of the bits and the items inside, with what the last event changed and what is being written."""
-    for shown, rows in [(0, ["queue –", "s 1 0 0", "r 1 0 0", "cell 0", "x 0"]), (3, ["queue –", "s 1 0 0", "r 1 0 0", "cell 0…~*", "x 0"]),
-                        (6, ["queue –", "s 1 1* 0", "r 1 0 0", "cell 1", "x 0"]), (7, ["queue –", "s 1→0~* 1 0", "r 1 0 0", "cell 1", "x 0"]),
-                        (9, ["queue 1", "s 0 1 0", "r 1 0 0", "cell 1", "x 0"]), (18, ["queue –", "s 0 1 0", "r 0* 1 0", "cell 1", "x 0"])]:
+    for shown, rows in [
+        (0, ["queue –", "s 1 0 0", "r 1 0 0", "cell 0", "x 0"]),
+        (3, ["queue –", "s 1 0 0", "r 1 0 0", "cell 0…~*", "x 0"]),
+        (6, ["queue –", "s 1 1* 0", "r 1 0 0", "cell 1", "x 0"]),
+        (7, ["queue –", "s 1→0~* 1 0", "r 1 0 0", "cell 1", "x 0"]),
+        (9, ["queue 1", "s 0 1 0", "r 1 0 0", "cell 1", "x 0"]),
+        (18, ["queue –", "s 0 1 0", "r 0* 1 0", "cell 1", "x 0"]),
+    ]:
         page.open(f"script=plain_path&shown={shown}")
         same(f"inside after {shown} letters", page.browser.run(INSIDE), rows)
     for shown, scans in [(3, "0 for s, and 0 for r"), (7, "0 or 1 for s, and 0 for r"), (9, "1 for s, and 0 for r")]:
         page.open(f"script=plain_path&shown={shown}")
-        same(f"what a scan returns after {shown} letters", page.browser.run("return document.querySelector('#inside .scans').textContent"), f"A scan that lies in this moment gives {scans}.")
-    found = page.browser.wait(SCANS, {name: example(f"{name}.json") for name in SCANNED}, {name: json.dumps({**json.loads(example(f"wrong/{name}.json")), "wrong": name.replace("_", "-")}) for name in WRONG})
+        same(
+            f"what a scan returns after {shown} letters",
+            page.browser.run("return document.querySelector('#inside .scans').textContent"),
+            f"A scan that lies in this moment gives {scans}.",
+        )
+    found = page.browser.wait(
+        SCANS,
+        {name: example(f"{name}.json") for name in SCANNED},
+        {name: json.dumps({**json.loads(example(f"wrong/{name}.json")), "wrong": name.replace("_", "-")}) for name in WRONG},
+    )
     same("each count that a scan may return, and no other, is lawful", found if not isinstance(found, dict) else found["wrong"], [])
     print("scans:", {name: found[name] for name in ("tried", "several", "none")})
     same("scans of several counts, and of none", [found["several"] > 40, found["none"] > 0, found["tried"] > 1000], [True, True, True])
@@ -226,7 +251,11 @@ def test_first_screen(page, same, _):
         page.open("")
         browser.run("document.querySelectorAll('#welcome a')[arguments[0]].click()", at)
         browser.until("a way in", "return !document.getElementById('welcome').checkVisibility()")
-        browser.until(f"leads to {name or 'recorded calls'}", "return (document.getElementById('lesson').hidden ? '' : document.getElementById('of').textContent).startsWith(arguments[0])", name)
+        browser.until(
+            f"leads to {name or 'recorded calls'}",
+            "return (document.getElementById('lesson').hidden ? '' : document.getElementById('of').textContent).startsWith(arguments[0])",
+            name,
+        )
     page.open("script=nothing")
     same("no first screen after a link", browser.run(WELCOME), False)
     means = "return document.getElementById('means').textContent"

@@ -27,8 +27,12 @@ def test_welcome(page, same, _):
 
 def test_unknown_parts(page, same, _):
     """Unknown parts of a link are reported, and the rest is shown."""
-    for link, note in (("script=plain_path&colour=red", "A link has no part colour: it was left out."), ("script=plain_path&course=99", "The course has no step 99."),
-                       ("script=plain_path&goal=win", "There is no goal “win”."), ("script=plain_paths", "There is no example plain_paths of this kind.")):
+    for link, note in (
+        ("script=plain_path&colour=red", "A link has no part colour: it was left out."),
+        ("script=plain_path&course=99", "The course has no step 99."),
+        ("script=plain_path&goal=win", "There is no goal “win”."),
+        ("script=plain_paths", "There is no example plain_paths of this kind."),
+    ):
         page.open(link)
         same(f"{link}: the note", words(page, "note"), note)
     page.open("script=plain_path")

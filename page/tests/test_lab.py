@@ -27,8 +27,11 @@ def test_command(_, same, folder):
     top = os.path.dirname(PAGE)
     said = subprocess.run(UP, cwd=top, capture_output=True, text=True, check=False)
     lines = said.stdout.split("\n")
-    same("its class and bound", [said.returncode, lines[0], re.sub(r"[\d.]+ s\.", "N s.", lines[1])],
-         [0, "safe", "up to 3 writes and 2 reads: 7.8e+7 histories in 3758 states, N s. No larger bound is promised."])
+    same(
+        "its class and bound",
+        [said.returncode, lines[0], re.sub(r"[\d.]+ s\.", "N s.", lines[1])],
+        [0, "safe", "up to 3 writes and 2 reads: 7.8e+7 histories in 3758 states, N s. No larger bound is promised."],
+    )
     same("its histories", [line for line in lines if line.startswith("not ")], ["not atomic, in 9 steps:", "not regular, in 13 steps:"])
     for text, words in (("({values: 2})", "page/lab: registers: those that it is built of, by their names\n"), ("({values: ", "page/lab: ")):
         path = os.path.join(folder, "none.js")

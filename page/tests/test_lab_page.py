@@ -42,7 +42,11 @@ def test_constructions(page, same, _):
         writes, reads, result = HEAD.search(text_of(path)).groups()
         best, *missed = result.split("; ")
         page.open(f"lab={name}")
-        same(f"{name}: its text does not give the result away", [f": {result}" in page.text(), f"// {writes} writes, {reads} reads\n" in page.text()], [False, True])
+        same(
+            f"{name}: its text does not give the result away",
+            [f": {result}" in page.text(), f"// {writes} writes, {reads} reads\n" in page.text()],
+            [False, True],
+        )
         if page.browser.run("return document.body.classList.contains('folded')"):
             page.browser.press("v")
         got, bound = found(page)
@@ -54,7 +58,9 @@ def test_constructions(page, same, _):
         recordings = []
         for it in shown:
             page.browser.run(PRESS, it.split(":")[0])
-            recordings.append([it.removeprefix("not ").split(":")[0], words(page, "recording"), words(page, "why"), page.count("#picture .call.fault"), words(page, "place")])
+            recordings.append(
+                [it.removeprefix("not ").split(":")[0], words(page, "recording"), words(page, "why"), page.count("#picture .call.fault"), words(page, "place")]
+            )
         for (missing, _, why, faults, place), verdict in zip(recordings, page.browser.wait(JUDGED, [it[1] for it in recordings])):
             same(f"{name}: judged as not {missing}", rank(verdict["class"]) < rank(missing), True)
             same(f"{name}: why it is not {missing}", any(why == f"not {missing}: {it['words']}" for it in verdict["misses"]), True)
@@ -63,9 +69,17 @@ def test_constructions(page, same, _):
 
 
 WRONG = [  # a text, its message, the line that is marked
-    ('// a\n({\n  values: 2,\n  registers: {b: {}},\n  *write(value) {\n    yield write("b" value);\n  },\n  *read() { return yield read("b"); },\n})\n', "line 6: SyntaxError: missing ) after argument list", "6"),
+    (
+        '// a\n({\n  values: 2,\n  registers: {b: {}},\n  *write(value) {\n    yield write("b" value);\n  },\n  *read() { return yield read("b"); },\n})\n',
+        "line 6: SyntaxError: missing ) after argument list",
+        "6",
+    ),
     ("({\n  values: 2,\n", "line 2: SyntaxError: Unexpected token ')'", "2"),
-    ('({\n  values: 2,\n  registers: {b: {}},\n  *write(value) {\n    nothing();\n  },\n  *read() { return yield read("b"); },\n})\n', "line 5: ReferenceError: nothing is not defined", "5"),
+    (
+        '({\n  values: 2,\n  registers: {b: {}},\n  *write(value) {\n    nothing();\n  },\n  *read() { return yield read("b"); },\n})\n',
+        "line 5: ReferenceError: nothing is not defined",
+        "5",
+    ),
     ("({values: 2})", "registers: those that it is built of, by their names", None),
     ("({values: 2});\n", "registers: those that it is built of, by their names", None),
     ("", "there is no text", None),
@@ -78,7 +92,7 @@ WRONG = [  # a text, its message, the line that is marked
     (BIT % ("new WebSocket('ws://x');", ""), "line 1: ReferenceError: WebSocket is not defined", "1"),
     (BIT % ("postMessage({found: 1});", ""), "line 1: ReferenceError: postMessage is not defined", "1"),
     (BIT % ("throw {toString() { throw 1; }};", ""), "{} was thrown", None),
-    (BIT % ('yield 5;', ""), "yield read(NAME) or yield write(NAME, VALUE), of b: 5", None),
+    (BIT % ("yield 5;", ""), "yield read(NAME) or yield write(NAME, VALUE), of b: 5", None),
     (BIT % ('while (true) yield read("b");', ""), "an operation makes more than 64 accesses", None),
 ]
 
@@ -92,7 +106,11 @@ def test_wrong_texts(page, same, _):
     page.open("lab=bit_written_on_change")
     for text, said, line in WRONG:
         page.write(text)
-        same(f"{text[:60]!r}", [words(page, "bits"), marked(page), words(page, "bound"), page.count("#misses button"), seen(page, "recorded")], [said, line, "", 0, False])
+        same(
+            f"{text[:60]!r}",
+            [words(page, "bits"), marked(page), words(page, "bound"), page.count("#misses button"), seen(page, "recorded")],
+            [said, line, "", 0, False],
+        )
     page.write(GOOD)
     same("and then one that runs", [*found(page), marked(page)], [*SAFE, None])
 
@@ -127,12 +145,20 @@ def test_hostile(page, same, _):
     page.write(GOOD.replace("b:", "'\\u0001\\ud800':").replace('"b"', "'\\u0001\\ud800'"))
     same("what no picture may have", [*found(page), page.count("#picture parsererror"), page.count("#picture [data-call]")], [*SAFE, 0, 2])
     page.write(MARKUP)
-    same("markup in a name is text", [*found(page), page.count("main b"), "<b onclick=x>" in page.browser.run("return document.querySelector('#picture .write title').textContent")], [*SAFE, 0, True])
+    same(
+        "markup in a name is text",
+        [*found(page), page.count("main b"), "<b onclick=x>" in page.browser.run("return document.querySelector('#picture .write title').textContent")],
+        [*SAFE, 0, True],
+    )
     page.browser.run(LOOPING, BIT % ("for (;;);", ""), False)
     page.settle()
     during, took = page.browser.run("return [window.during, performance.now() - window.began]")
     same("while it runs", during, ["exploring ..", True, ""])
-    same("one that never ends", [words(page, "bits"), 12 < took / 1000 < 30], ["The text has not answered within 13 seconds, and was stopped: does something in it never end?", True])
+    same(
+        "one that never ends",
+        [words(page, "bits"), 12 < took / 1000 < 30],
+        ["The text has not answered within 13 seconds, and was stopped: does something in it never end?", True],
+    )
     page.browser.run(LOOPING, BIT % ("for (;;) ;", ""), True)
     page.settle()
     took = page.browser.run("return performance.now() - window.began")
@@ -175,7 +201,11 @@ def test_links(page, same, _):
     browser.run("document.querySelector('#offers button').click()")
     same("offered from another mode", words(page, "bits"), waits)
     page.open("lab=unary_of_the_ring&writes=2&reads=2&class=atomic&shown=5")
-    same("bound, class and step", [words(page, "bound").split(":")[0], words(page, "place"), words(page, "why")], ["up to 2 writes and 2 reads", "step 5 / 9", ""])
+    same(
+        "bound, class and step",
+        [words(page, "bound").split(":")[0], words(page, "place"), words(page, "why")],
+        ["up to 2 writes and 2 reads", "step 5 / 9", ""],
+    )
     page.browser.press("right", "right", "right", "right")
     same("at the fault", [words(page, "why").startswith("not atomic: line "), page.hash()], [True, "#lab=unary_of_the_ring&writes=2&reads=2&class=atomic"])
 
@@ -197,11 +227,17 @@ JUDGEMENTS = [  # what is posted, and what the page shows for it
     (({}, "atomic", INVERTED), ["regular", [["atomic", "regular"]]]),
     (({}, "atomic", OLD), DIFFERS % ("atomic", "the proved audit finds it atomic")),
     (({}, "regular", INVERTED), DIFFERS % ("regular", "the proved audit finds it regular")),
-    (({"registers": [{"name": "b", "kind": "atomic", "first": "0", "domain": ["0", "1"]}]}, "atomic", INVERTED), DIFFERS % ("atomic", "the accesses of b are not atomic")),
+    (
+        ({"registers": [{"name": "b", "kind": "atomic", "first": "0", "domain": ["0", "1"]}]}, "atomic", INVERTED),
+        DIFFERS % ("atomic", "the accesses of b are not atomic"),
+    ),
     (({}, "atomic", INVERTED[1:]), DIFFERS % ("atomic", "it is no history")),
     (({}, "atomic", INVERTED[:4] + INVERTED[5:]), DIFFERS % ("atomic", "it is no history")),
     (({}, "atomic", ["R9 read", "R9 read b"]), POSTED),
-    (({"values": "2"}, "", []), POSTED), (({"readers": 1e9}, "", []), POSTED), (({"registers": None}, "", []), POSTED), (({"states": "<b>"}, "", []), POSTED),
+    (({"values": "2"}, "", []), POSTED),
+    (({"readers": 1e9}, "", []), POSTED),
+    (({"registers": None}, "", []), POSTED),
+    (({"states": "<b>"}, "", []), POSTED),
     (({"registers": [{"name": "b", "kind": "safe", "first": "0", "domain": [0]}]}, "", []), POSTED),
 ]
 
@@ -267,40 +303,72 @@ def test_registers(page, same, folder):
         page.write(text)
         misses = [it for it in verdict[1:] if it.startswith("not ")]
         if verdict[0].startswith("refused: "):
-            same(f"{name}: refused, at its line", [words(page, "bits"), marked(page) or "none", words(page, "why") != ""], [verdict[0], re.search(r"line (\d+)", verdict[0])[1], True])
+            same(
+                f"{name}: refused, at its line",
+                [words(page, "bits"), marked(page) or "none", words(page, "why") != ""],
+                [verdict[0], re.search(r"line (\d+)", verdict[0])[1], True],
+            )
             continue
         same(f"{name}: its class", words(page, "bits"), f"register: {verdict[0]}")
         same(f"{name}: what it misses", browser.run(MISSES), [": ".join(it.split(": ")[:2]) for it in misses])
         for it in misses:
             browser.run(PRESS, it.split(":")[0] + ":")
             line = re.search(r"line (\d+)", it)[1]
-            same(f"{name}: {it[:20]}", [words(page, "why"), marked(page), words(page, "place").split(" / ")[0], page.count("#picture .bar.fault")], [it, line, f"line {line}", 1])
+            same(
+                f"{name}: {it[:20]}",
+                [words(page, "why"), marked(page), words(page, "place").split(" / ")[0], page.count("#picture .bar.fault")],
+                [it, line, f"line {line}", 1],
+            )
     page.open("register=unary")
-    same("what contradicts it", [page.count("#picture .bar.against"), page.browser.run("return [...document.querySelectorAll('#picture .lane')].map(it => it.textContent)")], [2, ["W", "R1", "R2"]])
+    same(
+        "what contradicts it",
+        [page.count("#picture .bar.against"), page.browser.run("return [...document.querySelectorAll('#picture .lane')].map(it => it.textContent)")],
+        [2, ["W", "R1", "R2"]],
+    )
     browser.press("left")
     same("before the fault", [words(page, "bits"), words(page, "place"), page.count("#picture .fault")], ["register: atomic", "line 6 / 9", 0])
     same("its link", page.hash(), "#register=unary&shown=5")
     long = "register 0 2\n" + "W write 1\nR1 read\nW wrote\nR1 got 1\nW write 0\nW wrote\n" * 6500
     page.write(long + "R1 read\nR1 got 1\n")
-    same("a long one", [len(long) > 300000, words(page, "bits"), words(page, "place"), page.count("#picture .bar.fault")], [True, "register: not safe", "line 39003 / 39003", 1])
+    same(
+        "a long one",
+        [len(long) > 300000, words(page, "bits"), words(page, "place"), page.count("#picture .bar.fault")],
+        [True, "register: not safe", "line 39003 / 39003", 1],
+    )
     page.write("register 0 2\nR1 read\nR1 got 0\n")
-    same("an own text", [words(page, "bits"), page.linked("history"), words(page, "due")], ["register: atomic", "register 0 2\nR1 read\nR1 got 0\n", "this recording cannot tell a regular register from an atomic one"])
+    same(
+        "an own text",
+        [words(page, "bits"), page.linked("history"), words(page, "due")],
+        ["register: atomic", "register 0 2\nR1 read\nR1 got 0\n", "this recording cannot tell a regular register from an atomic one"],
+    )
 
 
 def test_kinds_of_files(page, same, folder):
     """The kind of a file, and of a text in the wrong mode, is recognized."""
-    for name, text, mode, said in [("a.txt", "register 0 2\nR1 read\nR1 got 0\n", "register", "register: atomic"), ("b.txt", "// mine\n" + GOOD, "lab", "safe"), ("c.txt", "W write 1\nW wrote\n", "register", "refused: register line 1 is not a line of the format")]:
+    for name, text, mode, said in [
+        ("a.txt", "register 0 2\nR1 read\nR1 got 0\n", "register", "register: atomic"),
+        ("b.txt", "// mine\n" + GOOD, "lab", "safe"),
+        ("c.txt", "W write 1\nW wrote\n", "register", "refused: register line 1 is not a line of the format"),
+    ]:
         with open(os.path.join(folder, name), "w", encoding="ascii") as file:
             file.write(text)
         page.open("example=plain_path")
         give(page, os.path.join(folder, name))
         page.settle()
-        same(f"{name} is opened as {mode}", [page.browser.run("return document.querySelector('input[name=mode]:checked').value"), words(page, "bits")], [mode, said])
+        same(
+            f"{name} is opened as {mode}",
+            [page.browser.run("return document.querySelector('input[name=mode]:checked').value"), words(page, "bits")],
+            [mode, said],
+        )
         page.open("example=plain_path")
         page.write(text)
         page.browser.run("document.querySelector('#offers button').click()")
         page.settle()
-        same(f"{name} is offered to {mode}", [page.browser.run("return document.querySelector('input[name=mode]:checked').value"), words(page, "bits")], [mode, said])
+        same(
+            f"{name} is offered to {mode}",
+            [page.browser.run("return document.querySelector('input[name=mode]:checked').value"), words(page, "bits")],
+            [mode, said],
+        )
 
 
 def test_phone(page, same, _):
@@ -314,8 +382,12 @@ def test_phone(page, same, _):
     resize(page)
 
 
-EXERCISE = {"exercise": "A <b>bit</b>", "task": "Make it <i>regular</i>.", "text": GOOD,
-            "needs": {"class": "regular", "values": 2, "readers": 1, "kinds": ["safe"], "registers": 1, "accesses": 1, "writes": 2, "reads": 2}}
+EXERCISE = {
+    "exercise": "A <b>bit</b>",
+    "task": "Make it <i>regular</i>.",
+    "text": GOOD,
+    "needs": {"class": "regular", "values": 2, "readers": 1, "kinds": ["safe"], "registers": 1, "accesses": 1, "writes": 2, "reads": 2},
+}
 SOLVED = '({values: 2, registers: {b: {}}, memory: {W: {held: 0}}, *write(value, my) { if (value !== my.held) yield write("b", my.held = value); }, *read() { return yield read("b"); }})\n'
 NEEDS = "return [...document.querySelectorAll('#needs li')].map(it => [it.className, it.textContent])"
 
@@ -328,11 +400,23 @@ def test_exercise(page, same, folder):
     page.open("example=plain_path")
     give(page, path)
     page.settle()
-    same("its words are text", [words(page, "exercisename"), words(page, "task"), page.count("#exercise b, #exercise i")], ["A <b>bit</b>", "Make it <i>regular</i>.", 0])
+    same(
+        "its words are text",
+        [words(page, "exercisename"), words(page, "task"), page.count("#exercise b, #exercise i")],
+        ["A <b>bit</b>", "Make it <i>regular</i>.", 0],
+    )
     missed = [it for it in browser.run(NEEDS) if it[0] != "met"]
-    same("what is missed, with its history", [missed, words(page, "why").startswith("not regular: line "), seen(page, "handing")], [[["", "regular: missed, in 3 steps"]], True, False])
+    same(
+        "what is missed, with its history",
+        [missed, words(page, "why").startswith("not regular: line "), seen(page, "handing")],
+        [[["", "regular: missed, in 3 steps"]], True, False],
+    )
     page.write(SOLVED)
-    same("all is met", [sorted({it[0] for it in browser.run(NEEDS)}), seen(page, "handing"), browser.run("return document.getElementById('handin').disabled")], [["met"], True, True])
+    same(
+        "all is met",
+        [sorted({it[0] for it in browser.run(NEEDS)}), seen(page, "handing"), browser.run("return document.getElementById('handin').disabled")],
+        [["met"], True, True],
+    )
     browser.run("const it = document.getElementById('student'); it.value = 'Ada'; it.dispatchEvent(new Event('input'))")
     page.click("handin")
     read = "const {readHandIn} = await import(new URL('lab/exercises.js', location)); return readHandIn(document.getElementById('code').value);"
@@ -355,7 +439,19 @@ def test_exercise(page, same, folder):
     page.settle()
     same("but then", len(browser.run(NEEDS)), 6)
     page.open(urllib.parse.urlencode({"exercise": '{"exercise": "none"}'}))
-    same("a text that is not an exercise", words(page, "bits"), "this is no exercise: field \"task\" is missing: a text of 1 to 20000 characters")
+    same("a text that is not an exercise", words(page, "bits"), 'this is no exercise: field "task" is missing: a text of 1 to 20000 characters')
 
 
-TESTS = [test_constructions, test_wrong_texts, test_hostile, test_links, test_judged, test_lab, test_predict, test_registers, test_kinds_of_files, test_exercise, test_phone]
+TESTS = [
+    test_constructions,
+    test_wrong_texts,
+    test_hostile,
+    test_links,
+    test_judged,
+    test_lab,
+    test_predict,
+    test_registers,
+    test_kinds_of_files,
+    test_exercise,
+    test_phone,
+]

@@ -7,8 +7,13 @@ import pack
 from test_use import resize, seen, words
 
 # The steps whose ring is wrong, each with the fault that is found in its calls.
-WRONG = {"count_before_cell": "item 0 was not inside", "no_second_scan": "closed, but item 1 was inside", "small_modulus": "item 1 comes again",
-         "batch_twice": "item 1 comes again", "small_modulus__takes": "item 0 was not inside"}
+WRONG = {
+    "count_before_cell": "item 0 was not inside",
+    "no_second_scan": "closed, but item 1 was inside",
+    "small_modulus": "item 1 comes again",
+    "batch_twice": "item 1 comes again",
+    "small_modulus__takes": "item 0 was not inside",
+}
 WHICH = "return document.getElementById('which').textContent"
 
 

@@ -18,6 +18,7 @@ def titles():
 
 def shown(text, lessons):
     """A text as the page shows it: with a lesson's title instead of its name."""
+
     def title_of(match):
         name, ending = re.fullmatch(r"(\w+?)(\.trace|\.json|\.calls|\.reg|\.js)?|.*", match[1]).groups()
         named = [it for it in lessons if it["name"] == name]
@@ -31,7 +32,11 @@ def test_titles(page, same, _):
     """Each lesson has a title in plain words, in the list and beside the picture, with the name of its example."""
     lessons = pack.lessons()
     for it in (it for it in lessons if it["chapter"] != pack.UNTAUGHT):
-        same(f"the title of {it['name']} is plain and short", ["_" in it["title"], len(it["title"].split()) <= 7, it["title"] != it["name"].replace("_", " ")], [False, True, True])
+        same(
+            f"the title of {it['name']} is plain and short",
+            ["_" in it["title"], len(it["title"].split()) <= 7, it["title"] != it["name"].replace("_", " ")],
+            [False, True, True],
+        )
     same("no title twice", len({it["title"] for it in lessons}), len(lessons))
     page.open("script=two_cells")
     same("beside the picture", [words(page, "name"), words(page, "of")], ["Three items, two cells", "two_cells"])
@@ -42,6 +47,7 @@ def test_titles(page, same, _):
 
 def test_stories(_, same, __):
     """No text of a lesson refers to what the page does not show, and no story gives its answer away."""
+
     def plain(text):
         return re.findall(r"[\w.]+", text.lower().replace("`", ""))
 
@@ -49,26 +55,50 @@ def test_stories(_, same, __):
         text = " ".join([it["title"], *it["story"], it["question"], it["answer"]])
         same(f"{it['mode']} {it['name']}: what it refers to", re.findall(STALE, text), [])
         story, answer = " ".join(plain(" ".join(it["story"]))), plain(it["answer"])
-        shared = [run for run in (" ".join(answer[at:at + 6]) for at in range(len(answer) - 5)) if run in story]
+        shared = [run for run in (" ".join(answer[at : at + 6]) for at in range(len(answer) - 5)) if run in story]
         same(f"{it['mode']} {it['name']}: six words of the answer in the story", shared, [])
 
 
 def test_lessons(page, same, _):
     stories, lessons = pack.stories(), pack.lessons()
     names = json.loads(pack.examples()["examples.json"])
-    same("each example has one lesson", sorted((it["mode"], it["name"]) for it in lessons),
-         sorted((mode, it) for mode in pack.MODES for it in names[mode]))
+    same("each example has one lesson", sorted((it["mode"], it["name"]) for it in lessons), sorted((mode, it) for mode in pack.MODES for it in names[mode]))
     chapters = list(dict.fromkeys(it["chapter"] for it in lessons if it["mode"] not in ("register", "lab")))
-    same("chapters", chapters, ["A safe bit", "The unary register", "A put and a take", "A count while it is written", "The close", "Several items at once", "Rings that are wrong",
-                                "Break the ring", "Played by rings that are wrong", "A modulus one too small", "Recorded calls"])
+    same(
+        "chapters",
+        chapters,
+        [
+            "A safe bit",
+            "The unary register",
+            "A put and a take",
+            "A count while it is written",
+            "The close",
+            "Several items at once",
+            "Rings that are wrong",
+            "Break the ring",
+            "Played by rings that are wrong",
+            "A modulus one too small",
+            "Recorded calls",
+        ],
+    )
     page.open("")
     for at, it in enumerate(lessons):
         page.browser.until(f"lesson {at + 1}", "return document.getElementById('example').value === arguments[0]", f"{it['mode']} {it['name']}")
-        same(f"lesson {at + 1}", [words(page, "which"), words(page, "name"), words(page, "of")], [f"{at + 1} of {len(lessons)} · {it['chapter']}", it["title"], it["name"]])
-        same(f"story of {it['name']}", page.browser.run("return [...document.querySelectorAll('#story p')].map(it => it.textContent)"),
-             [shown(text, lessons) for text in stories.get((it["mode"], it["name"]), it["story"])])
-        same(f"question of {it['name']}", [words(page, "question"), words(page, "answer"), page.browser.run("return document.getElementById('answer').checkVisibility()")],
-             [shown(it["question"], lessons), shown(it["answer"], lessons), False])
+        same(
+            f"lesson {at + 1}",
+            [words(page, "which"), words(page, "name"), words(page, "of")],
+            [f"{at + 1} of {len(lessons)} · {it['chapter']}", it["title"], it["name"]],
+        )
+        same(
+            f"story of {it['name']}",
+            page.browser.run("return [...document.querySelectorAll('#story p')].map(it => it.textContent)"),
+            [shown(text, lessons) for text in stories.get((it["mode"], it["name"]), it["story"])],
+        )
+        same(
+            f"question of {it['name']}",
+            [words(page, "question"), words(page, "answer"), page.browser.run("return document.getElementById('answer').checkVisibility()")],
+            [shown(it["question"], lessons), shown(it["answer"], lessons), False],
+        )
         if it["chapter"] != pack.UNTAUGHT:
             same(f"{it['name']} has all three", all([it["question"], it["answer"], it["story"]]), True)
             same(f"question of {it['name']} is seen", page.browser.run(SEEN, "question"), True)
@@ -86,8 +116,11 @@ def test_lessons(page, same, _):
 
 
 REPLAYS = {  # for a trace that departs from the programs, or only begins to lose an item: the script that plays its story, the line after which there are no calls, what is found
-    "stale_item": ("count_before_cell", 3, "was not inside"), "closed_loses_an_item": ("no_second_scan", None, "closed, but item 1 was inside"),
-    "modulus_one_too_small": ("small_modulus", 20, "item 1 comes again"), "batch_count_comes_back": ("", 5, "item 1 comes again")}
+    "stale_item": ("count_before_cell", 3, "was not inside"),
+    "closed_loses_an_item": ("no_second_scan", None, "closed, but item 1 was inside"),
+    "modulus_one_too_small": ("small_modulus", 20, "item 1 comes again"),
+    "batch_count_comes_back": ("", 5, "item 1 comes again"),
+}
 
 
 def test_replays(page, same, _):
@@ -133,12 +166,23 @@ def test_course(page, same, _):
     for at, it in enumerate(steps):
         browser.until(f"step {at + 1}", f"{which} === arguments[0]", f"step {at + 1} of {len(steps)}")
         browser.until(f"step {at + 1}: explored", EXPLORED)
-        same(f"step {at + 1}", [words(page, "name"), browser.run(place), words(page, "minutes")],
-             [titles()[it["mode"], it["name"]], first_place(it), f"{it['minutes']} min"])
-        same(f"step {at + 1} is folded", [browser.run(LECTURE), browser.run("return document.title")], [[False, False, "board" not in it, True], f"step {at + 1} of the course"])
+        same(
+            f"step {at + 1}",
+            [words(page, "name"), browser.run(place), words(page, "minutes")],
+            [titles()[it["mode"], it["name"]], first_place(it), f"{it['minutes']} min"],
+        )
+        same(
+            f"step {at + 1} is folded",
+            [browser.run(LECTURE), browser.run("return document.title")],
+            [[False, False, "board" not in it, True], f"step {at + 1} of the course"],
+        )
         same(f"step {at + 1}: no replies yet", seen(page, "report"), False)
         browser.press("end", "v")
-        same(f"step {at + 1}: the notes and the question are not cut", [browser.run(SEEN, "say"), browser.run(SEEN, "question"), browser.run(CUT)], [True, True, []])
+        same(
+            f"step {at + 1}: the notes and the question are not cut",
+            [browser.run(SEEN, "say"), browser.run(SEEN, "question"), browser.run(CUT)],
+            [True, True, []],
+        )
         browser.press("pagedown")
     resize(page)
     same("the last", browser.run(which).split(" ")[1], str(len(steps)))
@@ -149,7 +193,11 @@ def test_course(page, same, _):
     browser.press("end")
     same("nothing is marked", browser.run(found), [0, 0])
     browser.press("v")
-    same("what is found", [browser.run(LECTURE), browser.run(found), page.verdicts()[0]], [[True, True, False, True], [2, 1], "bits: fault: line 9: not permitted"])
+    same(
+        "what is found",
+        [browser.run(LECTURE), browser.run(found), page.verdicts()[0]],
+        [[True, True, False, True], [2, 1], "bits: fault: line 9: not permitted"],
+    )
     browser.press("left")
     same("it stays so in this step", browser.run(LECTURE)[0], True)
     same("its link", page.hash(), "#example=stale_read_after_inversion&course=2&shown=7")
@@ -211,8 +259,11 @@ def test_lecture(page, same, _):
     browser.run("const now = Date.now(); Date.now = () => now + 754000")
     browser.press("pageup")
     browser.until("the clock", "return document.getElementById('clock').textContent.startsWith('12:3')")
-    same("its words", browser.wait("const {clockWords} = await import(new URL('panes/lecture.js', location)); return [0, 9.7, 754, 3599, 3600, 3725].map(clockWords)"),
-         ["0:00", "0:09", "12:34", "59:59", "1:00:00", "1:02:05"])
+    same(
+        "its words",
+        browser.wait("const {clockWords} = await import(new URL('panes/lecture.js', location)); return [0, 9.7, 754, 3599, 3600, 3725].map(clockWords)"),
+        ["0:00", "0:09", "12:34", "59:59", "1:00:00", "1:02:05"],
+    )
 
 
 def test_exercises(page, same, _):
@@ -255,7 +306,11 @@ def test_exercises(page, same, _):
     same("exercise 13", browser.run(result)[0], "calls: lawful")
     for letter, scans in [(224, "2"), (225, "2 or 3"), (226, "3"), (227, "3")]:
         browser.run("const it = document.getElementById('shown'); it.value = arguments[0]; it.dispatchEvent(new Event('input'))", letter)
-        same(f"exercise 13, after letter {letter}", browser.run("return document.querySelector('#inside .scans').textContent").split(" for s")[0], f"A scan that lies in this moment gives {scans}")
+        same(
+            f"exercise 13, after letter {letter}",
+            browser.run("return document.querySelector('#inside .scans').textContent").split(" for s")[0],
+            f"A scan that lies in this moment gives {scans}",
+        )
 
 
 TESTS = [test_titles, test_stories, test_lessons, test_replays, test_course, test_lecture, test_exercises]

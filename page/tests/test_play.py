@@ -35,7 +35,11 @@ def test_preset(page, same, _):
     page.open("")
     page.browser.run("document.querySelector('#welcome a').click()")
     page.browser.until("the first challenge", "return document.getElementById('of').textContent === arguments[0]", it["name"])
-    same("opens empty", [script["schedule"], page.browser.run(SCRIPT)["schedule"], page.browser.run("return document.getElementById('goal').value")], ["", "", it["goal"]])
+    same(
+        "opens empty",
+        [script["schedule"], page.browser.run(SCRIPT)["schedule"], page.browser.run("return document.getElementById('goal').value")],
+        ["", "", it["goal"]],
+    )
     reach = {}
     for wrong in plays.RINGS:
         found, states = plays.reached(ring_of(script, wrong))
@@ -69,7 +73,11 @@ def test_challenges(page, same, _):
         same(f"{it['name']}: no hint", words(page, "hinted"), "")
         found, _states = plays.reached(ring_of(script, script["wrong"]))
         page.browser.press(*keys(found[it["goal"]]))
-        same(f"{it['name']}: won", [words(page, "won"), seen(page, "winning"), page.count("#picture .call.fault"), words(page, "missing")], ["reached", True, 1, ""])
+        same(
+            f"{it['name']}: won",
+            [words(page, "won"), seen(page, "winning"), page.count("#picture .call.fault"), words(page, "missing")],
+            ["reached", True, 1, ""],
+        )
         same(f"{it['name']}: the words of it", "You have broken the ring" in words(page, "winning"), True)
         page.click("another")
         page.browser.until(f"{it['name']}: another ring", "return !document.getElementById('winning').checkVisibility()")

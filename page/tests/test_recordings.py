@@ -63,7 +63,9 @@ def test_cursor(page, same, folder):
             page.browser.run("const it = document.getElementById('shown'); it.value = arguments[0]; it.dispatchEvent(new Event('input'))", lines // 2)
             same(f"{lines} lines at {wide}: in the middle", page.browser.run(IN_VIEW), True)
             if lines > 600:
-                later = page.browser.run("return [document.querySelectorAll('#picture .cursor').length, document.querySelectorAll('#picture .later').length > 0]")
+                later = page.browser.run(
+                    "return [document.querySelectorAll('#picture .cursor').length, document.querySelectorAll('#picture .later').length > 0]"
+                )
                 same(f"{lines} lines at {wide}: what comes after the cursor looks different", later, [1, True])
     resize(page)
 
@@ -79,7 +81,9 @@ def test_numbers(page, same, _):
     page.write(f"queue 32\nP put {batch}\nP stored\nC take 20\nC item {batch}\n")
     bars = page.browser.run("return [...document.querySelectorAll('#picture .asks, #picture .says')].map(it => it.textContent)")
     numbers = [word for it in bars for word in it.split(" ") if word.strip("+").isdigit() and not word.startswith("+") and len(word) > 2]
-    same("of a batch whole numbers, and the number of the rest", [all(100000 <= int(it) < 100020 for it in numbers), any("+" in it for it in bars)], [True, True])
+    same(
+        "of a batch whole numbers, and the number of the rest", [all(100000 <= int(it) < 100020 for it in numbers), any("+" in it for it in bars)], [True, True]
+    )
 
 
 def test_strip(page, same, _):
@@ -107,7 +111,11 @@ def test_strip(page, same, _):
     hides = """const [words, svg] = ["#strip span", "#strip svg"].map(it => document.querySelector(it).getBoundingClientRect());
 return words.top >= svg.bottom - 1;"""
     same("its label hides nothing", page.browser.run(hides), True)
-    same("now, and at most", [page.browser.run("return [...document.querySelectorAll('#inside b')].map(it => it.textContent)"), "most inside" in words(page, "summary")], [["inside now", "queue"], True])
+    same(
+        "now, and at most",
+        [page.browser.run("return [...document.querySelectorAll('#inside b')].map(it => it.textContent)"), "most inside" in words(page, "summary")],
+        [["inside now", "queue"], True],
+    )
 
 
 def test_first_screen_at_200(page, same, _):
@@ -124,10 +132,13 @@ def test_refused(page, same, folder):
     """A refused text clears the verdict, and the page says what is refused and why."""
     page.open("calls=plain")
     cases = {}
-    for name, data in {"large.trace": b"shape 1 3 1\n" + b"P read r0\n" * 450000, "utf16.calls": "queue 8\r\nP put 1\r\n".encode("utf-16"),
-                       "deep.json": b'{"a":' * 1 + b"[" * 200000 + b"]" * 200000 + b"}",
-                       "two.json": b'{"process":0,"type":"invoke","f":"enqueue","value":1}\n{"process":1,"type":"invoke","f":"enqueue","value":2}\n',
-                       "log.json": b'[\n  {"process": 0, "type": "invoke", "f": "enqueue", "value": 1},\n  {"process": 0, "type": "ok", "f": "enqueue", "value": 1}\n]\n'}.items():
+    for name, data in {
+        "large.trace": b"shape 1 3 1\n" + b"P read r0\n" * 450000,
+        "utf16.calls": "queue 8\r\nP put 1\r\n".encode("utf-16"),
+        "deep.json": b'{"a":' * 1 + b"[" * 200000 + b"]" * 200000 + b"}",
+        "two.json": b'{"process":0,"type":"invoke","f":"enqueue","value":1}\n{"process":1,"type":"invoke","f":"enqueue","value":2}\n',
+        "log.json": b'[\n  {"process": 0, "type": "invoke", "f": "enqueue", "value": 1},\n  {"process": 0, "type": "ok", "f": "enqueue", "value": 1}\n]\n',
+    }.items():
         cases[name] = os.path.join(folder, name)
         with open(cases[name], "wb") as file:
             file.write(data)
@@ -136,7 +147,10 @@ def test_refused(page, same, folder):
     def open_file(name):
         page.open("calls=plain")
         give(page, cases[name])
-        page.browser.until(f"{name} is answered", "return !document.getElementById('bits').textContent.includes('calls: lawful') || document.getElementById('note').textContent !== ''")
+        page.browser.until(
+            f"{name} is answered",
+            "return !document.getElementById('bits').textContent.includes('calls: lawful') || document.getElementById('note').textContent !== ''",
+        )
         time.sleep(0.2)
         page.settle()
         return page.browser.run(shown)
@@ -165,8 +179,14 @@ def test_long_texts(page, same, folder):
     page.open("calls=plain")
     bound = FROZEN * slack()
     big = "queue 64\n" + "".join(f"P put {10**18 + at}\nP stored\nC take\nC item {10**18 + at}\n" for at in range(740000))
-    script = '{"capacity":1,"modulus":3,"width":1,"items":[' + ",".join("1" for _ in range(900000)) + '],"takes":1,"close":false,"schedule":"P8C10","oracle":""}'
-    for name, text, verdict in (("fifty.calls", big, "calls: lawful"), ("lines.calls", lawful(1050000), "calls: lawful"), ("items.json", script, "refused: script has too many items")):
+    script = (
+        '{"capacity":1,"modulus":3,"width":1,"items":[' + ",".join("1" for _ in range(900000)) + '],"takes":1,"close":false,"schedule":"P8C10","oracle":""}'
+    )
+    for name, text, verdict in (
+        ("fifty.calls", big, "calls: lawful"),
+        ("lines.calls", lawful(1050000), "calls: lawful"),
+        ("items.json", script, "refused: script has too many items"),
+    ):
         page.browser.run(WATCH)
         took = opened(page, folder, name, text, verdict)
         longest = page.browser.run(LONGEST)

@@ -35,7 +35,7 @@ def test_scripts(page, same, _):
             page.browser.press("right")
         moment = f"&shown={letters}" if letters < len(lines) - 1 else ""
         same(f"letter {letters}", [page.title(), page.hash()], [f"played {letters} of {len(lines) - 1} letters", f"#script={name}{moment}"])
-        same(f"accesses of letter {letters}", page.count("#picture [data-line]"), begun("".join(lines[1:letters + 1])))
+        same(f"accesses of letter {letters}", page.count("#picture [data-line]"), begun("".join(lines[1 : letters + 1])))
         taken.append(page.report().splitlines()[2])
     same("the item is taken by letter 17", taken, ["taken"] * 17 + ["taken 1"] * 5)
     moments = page.browser.run("return [...document.querySelectorAll('#moments button')].map(it => [...it.children].map(it => it.textContent).join(': '))")
@@ -60,26 +60,48 @@ def test_refused_scripts(page, same, _):
         return json.dumps({key: it for key, it in whole.items() if key != name})
 
     cases = [
-        ("hello", "script is not JSON"), ("", "script is not JSON"), (but()[:-1], "script is not JSON"),
-        ("1e309", "script is not JSON"), (but().replace('"takes": 1', '"takes": -1e309'), "script is not JSON"),
-        ("[]", "script is not an object"), ("null", "script is not an object"), ("1", "script is not an object"),
-        (but(colour=1), "script has an unknown field"), ('{"__proto__":1}', "script has an unknown field"),
-        ('{"<b>":1}', "script has an unknown field"), ("{}", "field capacity is missing"), (without("takes"), "field takes is missing"),
-        (but(takes=-1), "field takes has the wrong kind"), (but(close=1), "field close has the wrong kind"),
-        (but(items=[1, "1"]), "field items has the wrong kind"), (but(items=1), "field items has the wrong kind"),
-        (but(schedule=1), "field schedule has the wrong kind"), (but(batch=None), "field batch has the wrong kind"),
-        (but(width=1.0), "field width has the wrong kind"), (but().replace('"takes": 1', '"takes": 1e0'), "field takes has the wrong kind"),
-        (but(items=[1, 2**53]), f"item 1 {above}"), (but(items=[2**64 - 1], width=64), f"item 0 {above}"),
-        (but(items=[2**53 + 1], width=64), f"item 0 {above}"), (but(takes=2**53), f"field takes {above}"),
-        (but(capacity=0), "capacity must be from 1 to 64"), (but(modulus=2), "modulus must be from capacity + batch + 1 to 256"),
-        (but(width=65), "width must be from 1 to 64"), (but(batch=2), "batch must be from 1 to capacity"),
-        (but(take_batch=2), "take batch must be from 1 to capacity"), (but(take_batch="1"), "field take_batch has the wrong kind"),
+        ("hello", "script is not JSON"),
+        ("", "script is not JSON"),
+        (but()[:-1], "script is not JSON"),
+        ("1e309", "script is not JSON"),
+        (but().replace('"takes": 1', '"takes": -1e309'), "script is not JSON"),
+        ("[]", "script is not an object"),
+        ("null", "script is not an object"),
+        ("1", "script is not an object"),
+        (but(colour=1), "script has an unknown field"),
+        ('{"__proto__":1}', "script has an unknown field"),
+        ('{"<b>":1}', "script has an unknown field"),
+        ("{}", "field capacity is missing"),
+        (without("takes"), "field takes is missing"),
+        (but(takes=-1), "field takes has the wrong kind"),
+        (but(close=1), "field close has the wrong kind"),
+        (but(items=[1, "1"]), "field items has the wrong kind"),
+        (but(items=1), "field items has the wrong kind"),
+        (but(schedule=1), "field schedule has the wrong kind"),
+        (but(batch=None), "field batch has the wrong kind"),
+        (but(width=1.0), "field width has the wrong kind"),
+        (but().replace('"takes": 1', '"takes": 1e0'), "field takes has the wrong kind"),
+        (but(items=[1, 2**53]), f"item 1 {above}"),
+        (but(items=[2**64 - 1], width=64), f"item 0 {above}"),
+        (but(items=[2**53 + 1], width=64), f"item 0 {above}"),
+        (but(takes=2**53), f"field takes {above}"),
+        (but(capacity=0), "capacity must be from 1 to 64"),
+        (but(modulus=2), "modulus must be from capacity + batch + 1 to 256"),
+        (but(width=65), "width must be from 1 to 64"),
+        (but(batch=2), "batch must be from 1 to capacity"),
+        (but(take_batch=2), "take batch must be from 1 to capacity"),
+        (but(take_batch="1"), "field take_batch has the wrong kind"),
         (but(capacity=2, take_batch=2), "modulus must be from capacity + the larger batch + 1 to 256"),
-        (but(items=[1] * 1001), "script has too many items"), (but(items=[1, 2]), "item 1 does not fit the width"),
-        (but(schedule="P1X"), "schedule is wrong at byte 2"), (but(schedule="<b>"), "schedule is wrong at byte 0"),
-        (but(schedule="P1000001"), "schedule is too long"), (but(schedule="P0"), "schedule is wrong at byte 1"),
+        (but(items=[1] * 1001), "script has too many items"),
+        (but(items=[1, 2]), "item 1 does not fit the width"),
+        (but(schedule="P1X"), "schedule is wrong at byte 2"),
+        (but(schedule="<b>"), "schedule is wrong at byte 0"),
+        (but(schedule="P1000001"), "schedule is too long"),
+        (but(schedule="P0"), "schedule is wrong at byte 1"),
         (but(oracle="012"), "oracle is wrong at byte 2"),
-        (but(items=[1, 1], schedule="P20000"), room), (but(schedule="PC" * 501), room), (but(oracle="01" * 5001), room),
+        (but(items=[1, 1], schedule="P20000"), room),
+        (but(schedule="PC" * 501), room),
+        (but(oracle="01" * 5001), room),
     ]
     page.open("script=plain_path")
     for text, words in cases:
@@ -216,7 +238,9 @@ def test_tie(page, same, _):
     counts.add(found["right"], 0)
     same("shaded reads and others", 0 < found["shaded"] < found["reads"], True)
     same("braces", found["braces"] > 40, True)
-    print(f"drawing and proof: {found['reads']} reads, {found['shaded']} of them shaded, {found['held']} held values, {found['plays']} plays, {found['calls']} calls, {found['braces']} braces")
+    print(
+        f"drawing and proof: {found['reads']} reads, {found['shaded']} of them shaded, {found['held']} held values, {found['plays']} plays, {found['calls']} calls, {found['braces']} braces"
+    )
     for name in scripts:
         page.open(f"script={name}")
         letters = page.browser.run("return [...document.querySelectorAll('#moments button span:first-child')].map(it => Number(it.textContent.split(' ')[1]))")

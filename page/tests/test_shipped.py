@@ -17,7 +17,11 @@ def test_shipped(_, same, folder):
         file.write(page.replace("Histories of safe bits", "histories of safe bits", 1))
     wrongs, pack.SHIPPED = pack.wrongs(), name
     line = page[:at].count("\n") + 1
-    same("the place where it differs", [it.split("sources, ")[1] for it in wrongs], [f"from its line {line} on, byte {len(page[:at].encode())}: run page/pack.py"])
+    same(
+        "the place where it differs",
+        [it.split("sources, ")[1] for it in wrongs],
+        [f"from its line {line} on, byte {len(page[:at].encode())}: run page/pack.py"],
+    )
 
 
 def test_one_file(served, same, _):

@@ -23,28 +23,46 @@ def test_sizes(page, same, _):
             for asked in ("example=stale_read_after_inversion", "script=five_items", "example=batch_count_comes_back", "trace=x"):
                 page.open(f"{asked}&theme={theme}")
                 what = f"{wide} {theme} {asked}"
-                box = page.browser.run("""const it = document.getElementById("verdict").getBoundingClientRect(), all = document.documentElement;
+                box = page.browser.run(
+                    """const it = document.getElementById("verdict").getBoundingClientRect(), all = document.documentElement;
                     const above = [...document.querySelectorAll("button, select, main, textarea")].filter(of => of.checkVisibility() && of.getBoundingClientRect().top < it.top).length;
-                    return [scrollX, scrollY, all.scrollWidth <= innerWidth, it.top >= 0 && it.bottom <= innerHeight / 2 && it.height > 10, innerWidth > 832 || above === 0]""")
+                    return [scrollX, scrollY, all.scrollWidth <= innerWidth, it.top >= 0 && it.bottom <= innerHeight / 2 && it.height > 10, innerWidth > 832 || above === 0]"""
+                )
                 same(f"the verdict is seen first, {what}", box, [0, 0, True, True, True])
-                same(f"its ground, {what}", page.browser.run("return getComputedStyle(document.body).backgroundColor"), "rgb(255, 255, 255)" if theme == "light" else "rgb(17, 21, 26)")
+                same(
+                    f"its ground, {what}",
+                    page.browser.run("return getComputedStyle(document.body).backgroundColor"),
+                    "rgb(255, 255, 255)" if theme == "light" else "rgb(17, 21, 26)",
+                )
         page.open("script=five_items")
         scale_of = "const it = document.querySelector('#picture svg'); return it.getBoundingClientRect().width / it.viewBox.baseVal.width"
         same(f"words are not too small, {wide}", page.browser.run(scale_of) > 0.75, True)
         open_help(page)
-        same(f"help is not cut, {wide}", page.browser.run("return [...document.querySelectorAll('#help dd')].filter(it => it.scrollHeight > it.clientHeight + 1 || it.scrollWidth > it.clientWidth + 1).map(it => it.textContent)"), [])
+        same(
+            f"help is not cut, {wide}",
+            page.browser.run(
+                "return [...document.querySelectorAll('#help dd')].filter(it => it.scrollHeight > it.clientHeight + 1 || it.scrollWidth > it.clientWidth + 1).map(it => it.textContent)"
+            ),
+            [],
+        )
     resize(page)
     page.open("example=new_old_inversion&theme=dark")
     media(page, "print")
     ground = "return getComputedStyle(document.querySelector('#picture .bg')).fill"
     same("on paper", [seen(page, "text"), seen(page, "verdict"), seen(page, "story"), page.browser.run(ground)], [False, True, True, "rgb(255, 255, 255)"])
     media(page, forced_colors="active")
-    same("forced colours", page.browser.run("""const of = (name, what) => getComputedStyle(document.querySelector(name))[what], it = document.createElement("i");
+    same(
+        "forced colours",
+        page.browser.run(
+            """const of = (name, what) => getComputedStyle(document.querySelector(name))[what], it = document.createElement("i");
         document.body.append(it);
         it.style.color = "CanvasText";
         const text = getComputedStyle(it).color;
         it.remove();
-        return [of("#picture .write path", "fill") === text, of("#picture .lane", "fill") === text, of("#picture .bg", "fill") !== text]"""), [True, True, True])
+        return [of("#picture .write path", "fill") === text, of("#picture .lane", "fill") === text, of("#picture .bg", "fill") !== text]"""
+        ),
+        [True, True, True],
+    )
     media(page)
 
 
@@ -82,13 +100,21 @@ def test_phone(page, same, _):
         page.open(asked)
         for part in ("story", "question", "text"):
             page.browser.run("document.getElementById(arguments[0]).scrollIntoView()", part)
-            on_top = page.browser.run("""return ["back", "on", ...document.body.classList.contains("script") ? ["undo"] : []].every(id => {
+            on_top = page.browser.run(
+                """return ["back", "on", ...document.body.classList.contains("script") ? ["undo"] : []].every(id => {
                 const it = document.getElementById(id), {left, top, width, height} = it.getBoundingClientRect();
                 return top >= 0 && top + height <= innerHeight && it.contains(document.elementFromPoint(left + width / 2, top + height / 2));
-            })""")
+            })"""
+            )
             same(f"the steps beside the {part} of {asked}", on_top, True)
     page.browser.run("document.getElementById('tools').scrollIntoView()")
-    same("the last of the page is not under the steps", page.browser.run("return document.getElementById('tools').getBoundingClientRect().bottom <= Math.min(...['steps', 'moves'].map(id => document.getElementById(id).getBoundingClientRect().top).filter(it => it > 0))"), True)
+    same(
+        "the last of the page is not under the steps",
+        page.browser.run(
+            "return document.getElementById('tools').getBoundingClientRect().bottom <= Math.min(...['steps', 'moves'].map(id => document.getElementById(id).getBoundingClientRect().top).filter(it => it > 0))"
+        ),
+        True,
+    )
     resize(page)
 
 
@@ -115,8 +141,11 @@ GAME, GOAL = "small_modulus", "take an item twice"
 
 def tap(page, selector):
     """Touches the middle of an element, which has to be in view; returns what is there."""
-    x, y, hit = page.browser.run("""const it = document.querySelector(arguments[0]), {left, top, width, height} = it.getBoundingClientRect(), [x, y] = [left + width / 2, top + height / 2];
-        return [x, y, it.contains(document.elementFromPoint(x, y))]""", selector)
+    x, y, hit = page.browser.run(
+        """const it = document.querySelector(arguments[0]), {left, top, width, height} = it.getBoundingClientRect(), [x, y] = [left + width / 2, top + height / 2];
+        return [x, y, it.contains(document.elementFromPoint(x, y))]""",
+        selector,
+    )
     for kind, points in [("touchStart", [{"x": x, "y": y}]), ("touchEnd", [])]:
         page.browser.devtools("Input.dispatchTouchEvent", {"type": kind, "touchPoints": points})
     return hit
@@ -187,9 +216,12 @@ def test_paper(page, same, _):
     media(page, "print")
     for it in pack.lessons():
         show(page, it)
-        cut = page.browser.run("""return ["lesson", "side", "told"].filter(id => document.getElementById(id).scrollHeight > document.getElementById(id).clientHeight + 1)
+        cut = page.browser.run(
+            """return ["lesson", "side", "told"].filter(id => document.getElementById(id).scrollHeight > document.getElementById(id).clientHeight + 1)
             .concat(["story", ...arguments[0] ? ["question"] : [], "verdict"].filter(id => !document.getElementById(id).checkVisibility()),
-              document.querySelector("#picture svg")?.getBoundingClientRect().bottom > innerHeight ? ["picture"] : [])""", it["question"] != "")
+              document.querySelector("#picture svg")?.getBoundingClientRect().bottom > innerHeight ? ["picture"] : [])""",
+            it["question"] != "",
+        )
         same(f"{it['mode']} {it['name']}: what is cut or missing on paper", cut, [])
     media(page)
     resize(page)
@@ -224,7 +256,15 @@ def test_numbers_of_one(page, same, _):
 def test_contrast(page, same, _):
     """Clickable elements have a contrast of at least 4.5 to 1, light and dark."""
     for theme in ("light", "dark"):
-        for asked in ("", "example=stale_item", "script=five_items&shown=40", "script=small_modulus&shown=22&goal=take+an+item+twice", "calls=batch", "course=3", "trace=x"):
+        for asked in (
+            "",
+            "example=stale_item",
+            "script=five_items&shown=40",
+            "script=small_modulus&shown=22&goal=take+an+item+twice",
+            "calls=batch",
+            "course=3",
+            "trace=x",
+        ):
             page.open(f"{asked}&theme={theme}" if asked else f"theme={theme}")
             if asked == "":
                 page.browser.run("document.getElementById('welcome').hidden = false")

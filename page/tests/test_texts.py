@@ -25,11 +25,32 @@ OFFERED = [
     ("calls", "shape 1 3 1\nP write s0 0\n", "This looks like a trace.", "trace", "bits: lawful", None),
     ("calls", "P write s0 0\nP wrote s0\n", "This looks like a trace.", "trace", "refused: trace line 1 is not a line of the format", None),
     ("calls", '{"capacity":1}', "This looks like a script.", "script", "refused: field modulus is missing", None),
-    ("calls", CALLS.removeprefix("queue 2\n"), "This recording has no first line that describes its queue: \"queue\" is put there", "calls", "calls: lawful", "queue\n" + CALLS.removeprefix("queue 2\n")),
+    (
+        "calls",
+        CALLS.removeprefix("queue 2\n"),
+        'This recording has no first line that describes its queue: "queue" is put there',
+        "calls",
+        "calls: lawful",
+        "queue\n" + CALLS.removeprefix("queue 2\n"),
+    ),
     ("calls", "P put 1\nP stored\nP put 2\nP full\n", '"queue 1" is put there', "calls", "calls: lawful", "queue 1\nP put 1\nP stored\nP put 2\nP full\n"),
     ("calls", "P put 1\nP full\nP put 2\nP stored\n", '"queue 0 1" is put there', "calls", "calls: lawful", "queue 0 1\nP put 1\nP full\nP put 2\nP stored\n"),
-    ("calls", "# mine\nqueue 2\n\nP put 1\n// and\nP stored\n", "This recording has 3 lines that are comments, or empty.", "calls", "calls: lawful", "queue 2\nP put 1\nP stored\n"),
-    ("calls", "\ufeffqueue 2\nP put 1", "This recording begins with a byte order mark; it has no line feed at its end.", "calls", "calls: lawful", "queue 2\nP put 1\n"),
+    (
+        "calls",
+        "# mine\nqueue 2\n\nP put 1\n// and\nP stored\n",
+        "This recording has 3 lines that are comments, or empty.",
+        "calls",
+        "calls: lawful",
+        "queue 2\nP put 1\nP stored\n",
+    ),
+    (
+        "calls",
+        "\ufeffqueue 2\nP put 1",
+        "This recording begins with a byte order mark; it has no line feed at its end.",
+        "calls",
+        "calls: lawful",
+        "queue 2\nP put 1\n",
+    ),
     ("calls", "queue 2\n P put 1\nP stored \n", "This recording has spaces at the ends of lines.", "calls", "calls: lawful", "queue 2\nP put 1\nP stored\n"),
 ]
 
@@ -42,44 +63,64 @@ def test_kinds(page, same, folder):
         page.write(text)
         same(f"{mode} {text!r}: what is offered", said in words(page, "offers"), True)
         page.browser.run("document.querySelector('#offers button').click()")
-        same(f"{mode} {text!r}: after the button", [page.browser.run("return document.querySelector('input[name=mode]:checked').value"), page.browser.run("return document.getElementById('bits').textContent"), page.text()],
-             [to, verdict, then or text.removeprefix("\ufeff")])
+        same(
+            f"{mode} {text!r}: after the button",
+            [
+                page.browser.run("return document.querySelector('input[name=mode]:checked').value"),
+                page.browser.run("return document.getElementById('bits').textContent"),
+                page.text(),
+            ],
+            [to, verdict, then or text.removeprefix("\ufeff")],
+        )
     page.open("calls=plain")
     for text in ("queue 2\nP putt 1\n", ""):
         page.write(text)
         same(f"{text!r}: nothing is offered", words(page, "offers"), "")
     # files: their kind is recognized by any line, and none of these is read as a trace
-    for name, text, verdict in [("headless.txt", CALLS.removeprefix("queue 2\n"), "refused: calls line 1 is not a line of the format"), ("crlf.txt", "# x\r\n" + CALLS.replace("\n", "\r\n"), "refused: calls line 1 is not a line of the format"),
-                                ("bom.txt", "\ufeff" + CALLS, "refused: calls line 1 is not a line of the format")]:
+    for name, text, verdict in [
+        ("headless.txt", CALLS.removeprefix("queue 2\n"), "refused: calls line 1 is not a line of the format"),
+        ("crlf.txt", "# x\r\n" + CALLS.replace("\n", "\r\n"), "refused: calls line 1 is not a line of the format"),
+        ("bom.txt", "\ufeff" + CALLS, "refused: calls line 1 is not a line of the format"),
+    ]:
         with open(os.path.join(folder, name), "w", encoding="utf-8", newline="") as file:
             file.write(text)
         page.open("example=plain_path")
         give(page, os.path.join(folder, name))
-        same(f"{name} is opened as calls", [page.browser.run("return document.querySelector('input[name=mode]:checked').value"), words(page, "bits")], ["calls", verdict])
+        same(
+            f"{name} is opened as calls",
+            [page.browser.run("return document.querySelector('input[name=mode]:checked').value"), words(page, "bits")],
+            ["calls", verdict],
+        )
         page.browser.run("document.querySelector('#offers button').click()")
         same(f"{name} is mended", [words(page, "bits"), page.text().split("\n", 1)[1]], ["calls: lawful", CALLS.split("\n", 1)[1]])
 
 
 def pasted(page, text):
     """Pastes a text with keys over everything in the editor; returns how many milliseconds that took, including the next frame."""
+
     def with_control(key):
         page.browser.press(f"ctrl+{key}")
 
-    page.browser.run("""const [text] = arguments;
+    page.browser.run(
+        """const [text] = arguments;
         document.activeElement.blur();
         document.addEventListener("copy", event => {
           event.clipboardData.setData("text/plain", text);
           event.preventDefault();
-        }, {once: true})""", text)
+        }, {once: true})""",
+        text,
+    )
     with_control("c")
-    page.browser.run("""const it = document.getElementById("text");
+    page.browser.run(
+        """const it = document.getElementById("text");
         it.focus();
         it.select();
         window.took = null;
         it.addEventListener("keydown", event => {
           const began = performance.now();
           if (event.key === "v") requestAnimationFrame(() => setTimeout(() => window.took = performance.now() - began));
-        })""")
+        })"""
+    )
     with_control("v")
     page.browser.until("a paste", "return window.took !== null")
     return page.browser.run("return window.took")
@@ -88,9 +129,18 @@ def pasted(page, text):
 BIG = "".join(f"P put {i}\nC take\nP stored\nC item {i}\n" for i in range(125000))
 PASTES = [  # the link, the text, the verdict, what is offered
     ("calls=plain", "queue 8\n" + BIG, "calls: lawful", ""),
-    ("example=plain_path", "shape 1 3 1\n" + "C read s0\nC got s0 1\n" * 240000, "refused: trace has more than the 10000 events that this page has room for", ""),
-    ("script=plain_path", '{"capacity":1,"modulus":3,"width":1,"items":[1],"takes":1,"close":false,"oracle":"","schedule":"' + "PC" * 2500000 + '"}',
-     "refused: script has more than this page has room for: 10000 events, 1000 runs of letters, 10000 answers", ""),
+    (
+        "example=plain_path",
+        "shape 1 3 1\n" + "C read s0\nC got s0 1\n" * 240000,
+        "refused: trace has more than the 10000 events that this page has room for",
+        "",
+    ),
+    (
+        "script=plain_path",
+        '{"capacity":1,"modulus":3,"width":1,"items":[1],"takes":1,"close":false,"oracle":"","schedule":"' + "PC" * 2500000 + '"}',
+        "refused: script has more than this page has room for: 10000 events, 1000 runs of letters, 10000 answers",
+        "",
+    ),
     ("script=plain_path", '{"items":[' + "1," * 2500000 + "]}", "refused: script is not JSON", ""),
     ("example=plain_path", "queue 8\n" + BIG, "refused: trace line 1 is not a line of the format", "This looks like recorded calls."),
 ]
@@ -115,7 +165,11 @@ def test_paste(page, same, _):
     page.write("queue 1\n")
     text = "queue 8\n" + BIG[:100000].rsplit("\n", 1)[0] + "\n"
     print(f"0.1 MB pasted, to be edited: {pasted(page, text):.0f} ms")
-    same("a text that is edited", [page.text(), words(page, "bits"), page.browser.run("return document.getElementById('text').readOnly")], [text, "calls: lawful", False])
+    same(
+        "a text that is edited",
+        [page.text(), words(page, "bits"), page.browser.run("return document.getElementById('text').readOnly")],
+        [text, "calls: lawful", False],
+    )
     page.browser.back()
     page.browser.until("Back brings what was there", "return document.getElementById('text').value === arguments[0]", "queue 1\n")
 
@@ -189,16 +243,22 @@ def test_logs(page, same, folder):
     for name in ("jepsen.edn", "jepsen.jsonl"):
         page.open("example=plain_path")
         give(page, os.path.join(TOP, "record", "tests", "logs", name))
-        same(f"{name} is opened", [words(page, "bits"), words(page, "note"), page.browser.run("return document.querySelector('input[name=mode]:checked').value")],
-             [f"calls: {audited(page.text()).splitlines()[0]}", f"{name}, the calls of a log", "calls"])
+        same(
+            f"{name} is opened",
+            [words(page, "bits"), words(page, "note"), page.browser.run("return document.querySelector('input[name=mode]:checked').value")],
+            [f"calls: {audited(page.text()).splitlines()[0]}", f"{name}, the calls of a log", "calls"],
+        )
     logs = dict(samples)
     page.write(logs["jepsen.edn"])
     same("one in the editor is offered", words(page, "offers"), "This looks like a log of another test. Open its calls")
     page.browser.run("document.querySelector('#offers button').click()")
     same("and opened", page.text(), convert.recording_of(logs["jepsen.edn"]))
     page.write(logs["two_producers.edn"])
-    same("one of two producers is not", [words(page, "offers"), page.count("#offers button")],
-         ["This looks like a log of another test, but line 3 has process 2, and process 0 puts too: a recording has one producer and one consumer. ", 0])
+    same(
+        "one of two producers is not",
+        [words(page, "offers"), page.count("#offers button")],
+        ["This looks like a log of another test, but line 3 has process 2, and process 0 puts too: a recording has one producer and one consumer. ", 0],
+    )
 
 
 TESTS = [test_kinds, test_paste, test_kept, test_logs]

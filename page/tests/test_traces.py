@@ -106,7 +106,7 @@ def test_stepping(page, same, _):
         page.browser.press("left")
         want = [f"line {shown + 1} / {last + 1}", "lawful", f"#example=stale_read_after_inversion&shown={shown}"]
         same(f"left to {shown}", [place(), page.title(), page.hash()], want)
-        same(f"accesses of {shown}", page.count("#picture [data-line]"), begun("\n".join(text.splitlines()[:shown + 1])))
+        same(f"accesses of {shown}", page.count("#picture [data-line]"), begun("\n".join(text.splitlines()[: shown + 1])))
     page.browser.press("left")
     same("left stops at the first line", place(), f"line 1 / {last + 1}")
     page.browser.press("right", "right")
@@ -136,7 +136,11 @@ def test_stepping(page, same, _):
     for id in ("waves", "example"):
         page.browser.run("document.getElementById(arguments[0]).focus()", id)
         page.browser.press("left", "right", "right")
-    same("in a list, too", [place(), page.browser.run("return document.getElementById('example').value")], [f"line 6 / {last + 1}", "trace stale_read_after_inversion"])
+    same(
+        "in a list, too",
+        [place(), page.browser.run("return document.getElementById('example').value")],
+        [f"line 6 / {last + 1}", "trace stale_read_after_inversion"],
+    )
     page.browser.run("const it = document.getElementById('waves'); it.focus(); it.dispatchEvent(new Event('change'))")
     same("choosing from the list gives up the focus", page.browser.run("return document.activeElement === document.body"), True)
     page.open("example=no_such_example")
@@ -201,7 +205,9 @@ def test_keyboard(page, same, _):
         same(f"{id_} has a name", bool(page.browser.name_of_focus().strip()), True)
         outline = page.browser.run("const it = document.activeElement, of = it.name === 'mode' ? it.parentNode : it; return getComputedStyle(of).outlineStyle")
         same(f"{id_} shows its focus", outline != "none", True)
-    missing = {"example", "back", "shown", "on", "waves", "open", "save", "theme", "ask", "previous", "next", "question", "mode", "text", "astrace", "g"} - set(seen)
+    missing = {"example", "back", "shown", "on", "waves", "open", "save", "theme", "ask", "previous", "next", "question", "mode", "text", "astrace", "g"} - set(
+        seen
+    )
     same("controls that the Tab key does not reach", sorted(missing), [])
 
 

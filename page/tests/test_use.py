@@ -61,16 +61,23 @@ def test_own(page, same, folder):
     page.browser.until("Back brings the lesson", "return document.getElementById('example').value === 'trace plain_path'")
 
     # files
-    for name, text, mode in [("own.trace", trace, "trace"), ("own.json", pack.examples()["examples/two_cells.json"].decode(), "script"), ("crlf.txt", trace.replace("\n", "\r\n"), "trace")]:
+    for name, text, mode in [
+        ("own.trace", trace, "trace"),
+        ("own.json", pack.examples()["examples/two_cells.json"].decode(), "script"),
+        ("crlf.txt", trace.replace("\n", "\r\n"), "trace"),
+    ]:
         with open(os.path.join(folder, name), "w", encoding="utf-8", newline="") as file:
             file.write(text)
         page.browser.upload("file", os.path.join(folder, name))
         page.browser.until(f"{name} is opened", "return document.getElementById('note').textContent.startsWith(arguments[0])", name)
         same(f"{name}", [page.text(), page.browser.run("return document.querySelector('input[name=mode]:checked').value")], [text.replace("\r", ""), mode])
     same("dropped carriage returns are reported", words(page, "note"), "crlf.txt, without its carriage returns")
-    page.browser.run("""const data = new DataTransfer();
+    page.browser.run(
+        """const data = new DataTransfer();
         data.items.add(new File([arguments[0]], "dropped.trace"));
-        document.body.dispatchEvent(new DragEvent("drop", {dataTransfer: data, bubbles: true, cancelable: true}))""", trace + "C read s0\n")
+        document.body.dispatchEvent(new DragEvent("drop", {dataTransfer: data, bubbles: true, cancelable: true}))""",
+        trace + "C read s0\n",
+    )
     page.browser.until("a file is dropped", "return document.getElementById('note').textContent === 'dropped.trace'")
     same("its text", page.text(), trace + "C read s0\n")
     page.write("P\n" * 110000)
@@ -91,9 +98,16 @@ def test_refusals(page, same, _):
     same("mended", [seen(page, "last"), seen(page, "refusal"), page.title()], [False, False, "lawful"])
     whole = json.loads(pack.examples()["examples/plain_path.json"])
     page.open("script=plain_path")
-    for text, place, sample in [(json.dumps({**whole, "schedule": "P8X"}), "X", "{"), (json.dumps({**whole, "items": [1, 0, 2]}), "2", "{"),
-                                (json.dumps({**whole, "oracle": "012"}), "2", "{"), ('{"capacity" 1}', "1", "{"), ('{"capacity":[1,]}', "]", "{"),
-                                (json.dumps({**whole, "takes": "one"}), '"takes": "one"', "{"), ('{"a":1', "", "{"), ("[1]x", "x", "{")]:
+    for text, place, sample in [
+        (json.dumps({**whole, "schedule": "P8X"}), "X", "{"),
+        (json.dumps({**whole, "items": [1, 0, 2]}), "2", "{"),
+        (json.dumps({**whole, "oracle": "012"}), "2", "{"),
+        ('{"capacity" 1}', "1", "{"),
+        ('{"capacity":[1,]}', "]", "{"),
+        (json.dumps({**whole, "takes": "one"}), '"takes": "one"', "{"),
+        ('{"a":1', "", "{"),
+        ("[1]x", "x", "{"),
+    ]:
         page.write(text)
         page.click("find")
         same(f"the place in {text}", page.browser.run(selected), place)
@@ -138,7 +152,11 @@ def test_reach(page, same, _):
         page.browser.press("up")
     same("bars", names, ["8 C reads s0: 1, lines 8 to 9", "5 C reads s0: 1, lines 5 to 6", "3 C reads s0: 0, lines 3 to 4", "2 P writes 0 to s0, lines 2 to 7"])
     page.browser.press("down", "enter")
-    same("the line of a bar", page.browser.run("const it = document.getElementById('text'); return it.value.slice(it.selectionStart, it.selectionEnd)"), "C read s0")
+    same(
+        "the line of a bar",
+        page.browser.run("const it = document.getElementById('text'); return it.value.slice(it.selectionStart, it.selectionEnd)"),
+        "C read s0",
+    )
     page.open("example=plain_path")
     page.browser.run("document.querySelector('#picture [tabindex=\"0\"]').focus()")
     page.browser.press("left")
@@ -147,8 +165,11 @@ def test_reach(page, same, _):
 
 REASONS = [  # a text, and the reasons beside its two verdicts
     ("shape 1 3 1\nC read s0\nC got s0 0\n", "s0 holds 1 from the start, and no write overlaps the read of line 2: it has to answer 1", ""),
-    ("shape 1 3 1\nP write s0 0\nP wrote s0\nP write s0 1\nP wrote s0\nC read s0\nC got s0 0\n",
-     "s0 holds 1 since line 5, and no write overlaps the read of line 6: it has to answer 1", ""),
+    (
+        "shape 1 3 1\nP write s0 0\nP wrote s0\nP write s0 1\nP wrote s0\nC read s0\nC got s0 0\n",
+        "s0 holds 1 since line 5, and no write overlaps the read of line 6: it has to answer 1",
+        "",
+    ),
     ("shape 1 3 1\nP write s0 0\nP wrote s1\n", "P's write of s0 in line 2 is open: its end was to come", ""),
     ("shape 1 3 1\nC read s0\nP read r1\n", "", "in line 3 was due: P read r0, or write x 1"),
     ("shape 1 3 1\nP read r0\nP got r0 1\nP read r0\n", "", "in line 4 was due: P write c0.0 0 or 1"),
@@ -202,11 +223,17 @@ def test_collisions(page, same, _):
         resize(page, wide, high, scale)
         for theme in ("light", "dark"):
             page.open(f"example=stale_item&theme={theme}")
-            seen_both = page.browser.run("""return ["bits", "ring", "due"].map(id => document.getElementById(id).getBoundingClientRect()).every(it => it.height > 8 && it.top >= 0 && it.bottom <= innerHeight / 2
-                && it.right <= innerWidth)""")
+            seen_both = page.browser.run(
+                """return ["bits", "ring", "due"].map(id => document.getElementById(id).getBoundingClientRect()).every(it => it.height > 8 && it.top >= 0 && it.bottom <= innerHeight / 2
+                && it.right <= innerWidth)"""
+            )
             same(f"both verdicts are seen first, {wide} {theme}", seen_both, True)
             colours = page.browser.run("return ['bits', 'ring'].map(id => getComputedStyle(document.getElementById(id)).color)")
-            same(f"their colours, {wide} {theme}", colours, ["rgb(8, 120, 79)", "rgb(204, 31, 45)"] if theme == "light" else ["rgb(67, 210, 150)", "rgb(255, 106, 106)"])
+            same(
+                f"their colours, {wide} {theme}",
+                colours,
+                ["rgb(8, 120, 79)", "rgb(204, 31, 45)"] if theme == "light" else ["rgb(67, 210, 150)", "rgb(255, 106, 106)"],
+            )
     resize(page)
 
 
@@ -214,17 +241,28 @@ def test_calls(page, same, _):
     """Braces over the lanes: each call with its reply, from its first own event to its last."""
     page.open("example=plain_path")
     same("calls of a trace", calls_of(page), ["P put 1, lines 2 to 9", "C take: 1, lines 10 to 19"])
-    same("their parts", page.browser.run("return [...document.querySelectorAll('#picture .part')].map(it => it.textContent)"),
-         ["k mod 3 = 0", "word", "n = 1", "n mod 3 = 1", "word", "k = 1"])
-    same("the call of a bar", page.browser.run("return document.querySelector('#picture [data-line=\"4\"]').getAttribute('aria-label')"), "P writes 1 to c0.0, lines 4 to 5, of put 1")
+    same(
+        "their parts",
+        page.browser.run("return [...document.querySelectorAll('#picture .part')].map(it => it.textContent)"),
+        ["k mod 3 = 0", "word", "n = 1", "n mod 3 = 1", "word", "k = 1"],
+    )
+    same(
+        "the call of a bar",
+        page.browser.run("return document.querySelector('#picture [data-line=\"4\"]').getAttribute('aria-label')"),
+        "P writes 1 to c0.0, lines 4 to 5, of put 1",
+    )
     page.browser.press("left")
     same("a call under way", calls_of(page), ["P put 1, lines 2 to 9", "C take, from line 10, under way"])
     page.browser.press("home", *["right"] * 8)
     same("one that has ended", calls_of(page), ["P put 1, lines 2 to 9"])
     page.browser.press("left")
     same("and one that has not", calls_of(page), ["P put, from line 2, under way"])
-    for name, calls in [("full_at_capacity_one", ["P put 1, letters 1 to 8", "P put: full, letters 9 to 10"]),
-                        ("second_scan_finds_the_item", None), ("batch_of_three", None), ("cut_before_closed", None)]:
+    for name, calls in [
+        ("full_at_capacity_one", ["P put 1, letters 1 to 8", "P put: full, letters 9 to 10"]),
+        ("second_scan_finds_the_item", None),
+        ("batch_of_three", None),
+        ("cut_before_closed", None),
+    ]:
         page.open(f"script={name}")
         got = calls_of(page)
         if calls:
@@ -232,10 +270,20 @@ def test_calls(page, same, _):
         same(f"{name} has braces", len(got) > 1, True)
     page.open("example=plain_path")
     page.write(page.text().replace("C got s1 1", "C got s1 0"))
-    same("calls before a fault of the bits", [page.words(), calls_of(page)], ["fault: line 13: not permitted", ["P put 1, lines 2 to 9", "C take, from line 10, under way"]])
-    ends = page.browser.run("const of = it => Math.round(document.querySelector(it).getBoundingClientRect().right); return [of('#picture [data-call=\"10\"] path'), of('#picture .faultline')]")
+    same(
+        "calls before a fault of the bits",
+        [page.words(), calls_of(page)],
+        ["fault: line 13: not permitted", ["P put 1, lines 2 to 9", "C take, from line 10, under way"]],
+    )
+    ends = page.browser.run(
+        "const of = it => Math.round(document.querySelector(it).getBoundingClientRect().right); return [of('#picture [data-call=\"10\"] path'), of('#picture .faultline')]"
+    )
     same("its brace stops there", abs(ends[0] - ends[1]) <= 2, True)
-    page.write("shape 1 3 64\nP read r0\nP got r0 1\n" + "".join(f"P write c0.{i} 1\nP wrote c0.{i}\n" for i in range(64)) + "P write s1 1\nP wrote s1\nP write s0 0\nP wrote s0\n")
+    page.write(
+        "shape 1 3 64\nP read r0\nP got r0 1\n"
+        + "".join(f"P write c0.{i} 1\nP wrote c0.{i}\n" for i in range(64))
+        + "P write s1 1\nP wrote s1\nP write s0 0\nP wrote s0\n"
+    )
     same("the largest item", calls_of(page), [f"P put {2**64 - 1}, lines 2 to 135"])
     page.open("example=count_before_cell")
     same("calls before the break", calls_of(page), ["P put, from line 2, under way"])
@@ -268,8 +316,11 @@ def test_numbers(page, same, _):
     same("a letter of no event", [words(page, "place"), words(page, "step")], ["letter 42 / 42", "letter 42: no event, its side is done"])
     page.write(json.dumps({**json.loads(page.text()), "schedule": "C2P14C22"}))
     same("letters without an event", page.browser.run(lines), [*range(1, 13), *range(17, 39)])
-    same("its replies", page.browser.run("return [...document.querySelectorAll('#moments span:first-child')].map(it => it.textContent)"),
-         ["letter 7", "letter 28", "letter 38"])
+    same(
+        "its replies",
+        page.browser.run("return [...document.querySelectorAll('#moments span:first-child')].map(it => it.textContent)"),
+        ["letter 7", "letter 28", "letter 38"],
+    )
 
 
 KEPT = """const steps = arguments[0], slider = document.getElementById("shown"), frame = document.getElementById("picture"), wrong = [];
@@ -287,7 +338,14 @@ return wrong;"""
 
 def test_kept(page, same, _):
     """A picture updated from the previous one equals one drawn anew; and the focused element keeps the focus."""
-    for asked in ("example=stale_item&bits=all", "script=five_items", "script=batch_of_three", "example=modulus_one_too_small", "calls=full_with_room", "calls=batch"):
+    for asked in (
+        "example=stale_item&bits=all",
+        "script=five_items",
+        "script=batch_of_three",
+        "example=modulus_one_too_small",
+        "calls=full_with_room",
+        "calls=batch",
+    ):
         page.open(asked)
         same(f"steps of {asked}", page.browser.run(KEPT, [-1, 0, 1, 2, 5, 4, 3, 6, 7, 8, 0, -2, -1]), [])
     page.open("example=plain_path")
@@ -300,7 +358,13 @@ def test_kept(page, same, _):
     page.open("script=five_items")
     page.browser.run("document.querySelectorAll('#moments button')[2].focus()")
     page.browser.press("enter")
-    same("a reply keeps the focus", page.browser.run("return document.activeElement === document.querySelector('#moments [aria-current]') && document.activeElement === document.querySelectorAll('#moments button')[2]"), True)
+    same(
+        "a reply keeps the focus",
+        page.browser.run(
+            "return document.activeElement === document.querySelector('#moments [aria-current]') && document.activeElement === document.querySelectorAll('#moments button')[2]"
+        ),
+        True,
+    )
 
 
 STEP = """const times = [];

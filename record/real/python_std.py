@@ -62,8 +62,7 @@ def consume(rec, take, done):
 def main(name, calls):
     make, head, put, take, _ = QUEUES[name]
     q, rec, done = make(), ring_calls.Recorder(calls * 16 + 4096), threading.Event()
-    sides = [threading.Thread(target=produce, args=(rec, getattr(q, put), calls, done)),
-             threading.Thread(target=consume, args=(rec, getattr(q, take), done))]
+    sides = [threading.Thread(target=produce, args=(rec, getattr(q, put), calls, done)), threading.Thread(target=consume, args=(rec, getattr(q, take), done))]
     sys.setswitchinterval(1e-5)
     for side in sides:
         side.start()

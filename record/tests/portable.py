@@ -29,8 +29,14 @@ counts = Counting("portable")
 STRICT = ["-O1", "-Wall", "-Wextra", "-Wpedantic", "-Werror", f"-I{RECORD}/include"]
 KINDS, REGISTERS = "tests/kinds/kinds.c", "tests/registers/registers.c"
 # The sources that record every kind of event, the standard, more flags, and the numbers of words in a log; without one nothing is recorded.
-RECORDED = ((KINDS, "c11", [], (1000, 20, 7)), (KINDS, "c++11", [], (1000, 20)), (KINDS, "c11", ["-DRING_CALLS_TSC"], (1000, 20)),
-            (REGISTERS, "c11", [], (1000, 6, 3)), (REGISTERS, "c++11", [], (1000, 6)), (f"{REGISTERS}pp", "c++17", [], (1000, 6)))
+RECORDED = (
+    (KINDS, "c11", [], (1000, 20, 7)),
+    (KINDS, "c++11", [], (1000, 20)),
+    (KINDS, "c11", ["-DRING_CALLS_TSC"], (1000, 20)),
+    (REGISTERS, "c11", [], (1000, 6, 3)),
+    (REGISTERS, "c++11", [], (1000, 6)),
+    (f"{REGISTERS}pp", "c++17", [], (1000, 6)),
+)
 # Sources that are only compiled where there is no library for them.
 COMPILED = ("tests/unit/unit.c", "tests/unit/judge.c", "tests/unit/register_unit.c")
 # Those that clang compiles for macOS.
@@ -229,8 +235,13 @@ def try_python(room, audit):
     calls, windows, macos = f"{audit.program} audit --calls", {"PYTHONPATH": f"{room}/windows"}, {"PYTHONPATH": f"{room}/macos"}
     counts.check(run([sys.executable, "-c", "print()"], **windows)[1] == b"\r\n", "Python as on Windows")
     fault = write(f"{room}/fault.calls", "queue 8\nP put 1\nC take\nP stored\nC item 2\n")
-    for words in (["tests/kinds/kinds.py", "1000"], ["tests/registers/registers.py", "1000"], ["convert", "tests/logs/jepsen.edn"],
-                  ["head", "tests/kinds/kinds.calls"], ["shrink", fault]):
+    for words in (
+        ["tests/kinds/kinds.py", "1000"],
+        ["tests/registers/registers.py", "1000"],
+        ["convert", "tests/logs/jepsen.edn"],
+        ["head", "tests/kinds/kinds.calls"],
+        ["shrink", fault],
+    ):
         seen, want = (run([sys.executable, *words], AUDIT=calls, **env) for env in (windows, {}))
         counts.check(seen == want and want[0] == 0 and b"\r" not in seen[1] and seen[1], f"Python as on Windows: {words}", seen)
     good = ["printf", "queue 8\\nP put 1\\nP stored\\n"]

@@ -144,7 +144,10 @@ def try_text(text):
     expect({0, 1} <= overlapping, f"{text.name}: calls that overlap look like {overlapping}")
     for name, orders in WEAKER.items():
         weak = [*executions(text.threads, *orders)]
-        expect(any(text.order(it) is not None and text.looks(it) != text.order(it) for it in weak), f"{text.name}, {name}: no false alarm, so the order is not needed")
+        expect(
+            any(text.order(it) is not None and text.looks(it) != text.order(it) for it in weak),
+            f"{text.name}, {name}: no false alarm, so the order is not needed",
+        )
         expect(len(weak) > len(made), f"{text.name}, {name}: {len(weak)} executions, no more than {len(made)}")
 
 

@@ -7,21 +7,48 @@ import shlex
 import programs
 
 # Small tests of explore_test.c: the lawful ones, and for the others the status and the output.
-LAWFUL = ("mutex", "c11_mutex", "condition", "c11_condition", "spinlock", "yieldlock", "sleeplock", "semaphore", "list", "fences", "wide",
-          "large", "pair", "timed", "lost_timed", "bell")
+LAWFUL = (
+    "mutex",
+    "c11_mutex",
+    "condition",
+    "c11_condition",
+    "spinlock",
+    "yieldlock",
+    "sleeplock",
+    "semaphore",
+    "list",
+    "fences",
+    "wide",
+    "large",
+    "pair",
+    "timed",
+    "lost_timed",
+    "bell",
+)
 ALLOCATES = ("list",)
 FOUND = (
     ("no_lock", 3, r"^fault: line 4: item 0 was not inside; item 1 of line 2 is next\n(.|\n)*^data race: the consumer reads 8 bytes at tail "),
-    ("no_fence", 3, r"all lawful\n(.|\n)*^data race: the consumer reads 8 bytes at slot \(explore_test.c:\d+\), "
-                    r"which the producer wrote \(explore_test.c:\d+\) with"),
-    ("early_free", 3, r"^use after free: the consumer reads atomically 8 bytes at block 1\+8 \(explore_test.c:\d+\), which the consumer freed \(explore_test.c:\d+\)\n"),
+    (
+        "no_fence",
+        3,
+        r"all lawful\n(.|\n)*^data race: the consumer reads 8 bytes at slot \(explore_test.c:\d+\), " r"which the producer wrote \(explore_test.c:\d+\) with",
+    ),
+    (
+        "early_free",
+        3,
+        r"^use after free: the consumer reads atomically 8 bytes at block 1\+8 \(explore_test.c:\d+\), which the consumer freed \(explore_test.c:\d+\)\n",
+    ),
     ("early_free", 3, r"^use after free: the consumer frees block \d \(explore_test.c:\d+\), which the consumer freed \(explore_test.c:\d+\)\n"),
     ("early_free", 3, r"^use after free: the producer writes atomically 8 bytes at block 1\+8 \(explore_test.c:\d+\), which the consumer freed \("),
     ("lost_wide", 3, r"^fault: line 4: item \d+ was not inside; item 1111 "),
     ("lost_condition", 4, r"^waits forever: the producer is over, the consumer waits at explore_test.c:\d+\n"),
     ("lost_c11_condition", 4, r"^waits forever: the producer is over, the consumer waits at explore_test.c:\d+\n"),
-    ("two_locks", 4, r"^both wait forever: the producer waits at explore_test.c:\d+, the consumer waits at explore_test.c:\d+\n"
-                     r" +1  queue 2\n +2  P put 1\n +3  C take\n"),
+    (
+        "two_locks",
+        4,
+        r"^both wait forever: the producer waits at explore_test.c:\d+, the consumer waits at explore_test.c:\d+\n"
+        r" +1  queue 2\n +2  P put 1\n +3  C take\n",
+    ),
     ("spins", 4, r"^hangs: the producer is over, the consumer goes on at explore_test.c:\d+\n"),
     ("yields", 4, r"^hangs: the producer goes on at explore_test.c:\d+, the consumer goes on at explore_test.c:\d+\n"),
     ("loops", 4, r"^hangs: the producer goes on at explore_test.c:\d+, the consumer is over\n"),
@@ -51,16 +78,33 @@ THREAD = "explore: the test starts a thread, but its two sides must be functions
 NO_CALL = "explore: no call was recorded: do the two functions record their calls, with the functions of ring_calls.h?\n"
 REFUSED = (
     *((f"{bug}reset_{way}", NOT_THE_SAME) for bug in ("", "bug_") for way in ("nothing", "once", "but_head", "but_tail")),
-    ("later_fault", NOT_THE_SAME), ("later_hang", NOT_THE_SAME), ("later_race", NOT_THE_SAME), ("later_crash", NOT_THE_SAME),
-    ("posix_thread", THREAD), ("c11_thread", THREAD), ("runs_thread", THREAD),
-    ("", "explore: the test does not call explore()\n"), ("leaves", "explore: the test ended the program within explore()\n"),
+    ("later_fault", NOT_THE_SAME),
+    ("later_hang", NOT_THE_SAME),
+    ("later_race", NOT_THE_SAME),
+    ("later_crash", NOT_THE_SAME),
+    ("posix_thread", THREAD),
+    ("c11_thread", THREAD),
+    ("runs_thread", THREAD),
+    ("", "explore: the test does not call explore()\n"),
+    ("leaves", "explore: the test ended the program within explore()\n"),
     ("head", 'explore: "queu 2" is not a first line of a recording, such as "queue 2"\n'),
 )
 # The finding for each bug of twelve.h.
-TWELVE = ("data race: the consumer reads 8 bytes at q .twelve.h:", "item 0 was not inside", "full, but at most 1 inside",
-          "stored, but at least 3 inside", "item 5, but item 1 of line 2", "item 5, but item 1 of line 2", "closed, but item 2 was inside",
-          "waits forever: the producer is over, the consumer waits at twelve.h:", "full, but at most 1 inside", "stored, but at least 4 inside",
-          "empty, but item 2 was inside", "item 3 comes again", "item 1000003 was not inside")
+TWELVE = (
+    "data race: the consumer reads 8 bytes at q .twelve.h:",
+    "item 0 was not inside",
+    "full, but at most 1 inside",
+    "stored, but at least 3 inside",
+    "item 5, but item 1 of line 2",
+    "item 5, but item 1 of line 2",
+    "closed, but item 2 was inside",
+    "waits forever: the producer is over, the consumer waits at twelve.h:",
+    "full, but at most 1 inside",
+    "stored, but at least 4 inside",
+    "empty, but item 2 was inside",
+    "item 3 comes again",
+    "item 1000003 was not inside",
+)
 FORMS = range(1, 8)
 # Puts, preemptions and a seed that show a bug of ring.hpp; 10, 2 and 1 by default.
 RING = {6: (300, 0, 1), 7: (20, 1, 8), 8: (20, 0, 86), 15: (20, 1, 8), 16: (20, 1, 15), 17: (20, 0, 86), 18: (20, 1, 1)}
@@ -112,13 +156,43 @@ class Tries:
     def steps(self):
         """A replayed schedule shows what each access does, its order, and what a pointer points to."""
         for way, schedule, wanted in (
-            ("explore_rings place", "P4 C", ("stores place = slot+8 (release)  (", "compares place: had slot+8, failed (relaxed)  (",
-                      "compares place: had slot+8, wrote 0 (acquire)  (", "reads slot+8 = 1  (", "compares box: had 0, failed (seq_cst)  (",
-                      "exchanges box: 0 -> 7 (acquire)  (", "adds to box: 7 -> 10 (relaxed)  (", "\nlawful\n")),
-            ("explore_rings place", "C5 P", ("compares place: had 0, failed (relaxed)  (", "adds to box: 0 -> 3 (relaxed)  (", "compares box: had 3, wrote 4 (seq_cst)  (",
-                      "exchanges box: 4 -> 7 (acquire)  (")),
-            ("explore_test list", "P11 C", ("allocates block 2, 16 bytes  (", "stores block 1+8 = block 2 (release)  (", "reads block 2 = 1  (", "frees block 1  (",
-                                            "stores block 2+8 = block 3 (release)  (", "allocates block 1, 16 bytes  (", "\nlawful\n")),
+            (
+                "explore_rings place",
+                "P4 C",
+                (
+                    "stores place = slot+8 (release)  (",
+                    "compares place: had slot+8, failed (relaxed)  (",
+                    "compares place: had slot+8, wrote 0 (acquire)  (",
+                    "reads slot+8 = 1  (",
+                    "compares box: had 0, failed (seq_cst)  (",
+                    "exchanges box: 0 -> 7 (acquire)  (",
+                    "adds to box: 7 -> 10 (relaxed)  (",
+                    "\nlawful\n",
+                ),
+            ),
+            (
+                "explore_rings place",
+                "C5 P",
+                (
+                    "compares place: had 0, failed (relaxed)  (",
+                    "adds to box: 0 -> 3 (relaxed)  (",
+                    "compares box: had 3, wrote 4 (seq_cst)  (",
+                    "exchanges box: 4 -> 7 (acquire)  (",
+                ),
+            ),
+            (
+                "explore_test list",
+                "P11 C",
+                (
+                    "allocates block 2, 16 bytes  (",
+                    "stores block 1+8 = block 2 (release)  (",
+                    "reads block 2 = 1  (",
+                    "frees block 1  (",
+                    "stores block 2+8 = block 3 (release)  (",
+                    "allocates block 1, 16 bytes  (",
+                    "\nlawful\n",
+                ),
+            ),
         ):
             status, printed = self.explore(f"$ROOM/{way}", SCHEDULE=schedule)
             self.check(f"explore: the steps of {way}, {schedule}", status == 0 and all(words in printed for words in wanted), (status, printed))
@@ -301,8 +375,9 @@ def order_of(lines):
             calls[line[0]].append([line, None, at, len(lines)])
         else:
             calls[line[0]][-1][1:] = [line, calls[line[0]][-1][2], at]
-    order = frozenset((side, i, j) for side, other in ("PC", "CP") for i, one in enumerate(calls[side])
-                      for j, next_one in enumerate(calls[other]) if one[3] < next_one[2])
+    order = frozenset(
+        (side, i, j) for side, other in ("PC", "CP") for i, one in enumerate(calls[side]) for j, next_one in enumerate(calls[other]) if one[3] < next_one[2]
+    )
     return tuple(tuple((begin, end) for begin, end, _, _ in calls[side]) for side in "PC"), order
 
 

@@ -9,24 +9,42 @@ from xml.etree import ElementTree
 
 # The status and the output for each bug of broken/orders.h.
 BUGS = (
-    (3, "item 0 was not inside"), (3, "item 0 was not inside"), (3, "item 0 was not inside"), (3, "item 0 was not inside"), (3, "item 0 was not inside"),
-    (3, "item 0 was not inside"), (3, "item 0 was not inside"), (3, "closed, but item 1 of line 2 is inside"), (3, "closed, but item 1 of line 2 is inside"),
-    (3, "data race: .* at (full|slot) "), (4, "waits forever: the producer is over, the consumer waits at orders.h:"),
-    (4, "waits forever: the producer is over, the consumer waits at orders.h:"), (3, "item 1 comes again|item 0 was not inside"),
-    (3, "full, but at most 0 inside"), (3, "empty, but item 1 was inside"),
+    (3, "item 0 was not inside"),
+    (3, "item 0 was not inside"),
+    (3, "item 0 was not inside"),
+    (3, "item 0 was not inside"),
+    (3, "item 0 was not inside"),
+    (3, "item 0 was not inside"),
+    (3, "item 0 was not inside"),
+    (3, "closed, but item 1 of line 2 is inside"),
+    (3, "closed, but item 1 of line 2 is inside"),
+    (3, "data race: .* at (full|slot) "),
+    (4, "waits forever: the producer is over, the consumer waits at orders.h:"),
+    (4, "waits forever: the producer is over, the consumer waits at orders.h:"),
+    (3, "item 1 comes again|item 0 was not inside"),
+    (3, "full, but at most 0 inside"),
+    (3, "empty, but item 1 was inside"),
 )
 # The bug that a sequentially consistent execution shows, without spurious wake-ups or failures.
 OF_LOGIC = 12
 FORMS = range(1, 12)
 # The orders found in textbooks, by form: for each a line of the text, its kind, and the weakest order that suffices.
 TEXTBOOK = {
-    1: (("LOAD(head, acquire) == CAPACITY", "load", None), ("STORE_BUT(1, tail", "store", "release"), ("LOAD_BUT(2, tail", "load", "acquire"),
-        ("STORE(head, h + 1, release)", "store", "release"), ("const uint64_t t = LOAD(tail", "load", "relaxed")),
+    1: (
+        ("LOAD(head, acquire) == CAPACITY", "load", None),
+        ("STORE_BUT(1, tail", "store", "release"),
+        ("LOAD_BUT(2, tail", "load", "acquire"),
+        ("STORE(head, h + 1, release)", "store", "release"),
+        ("const uint64_t t = LOAD(tail", "load", "relaxed"),
+    ),
     2: (("STORE_BUT(3", "store", "release"), ("LOAD_BUT(4", "load", "acquire")),
     4: (("LOAD_BUT(7, tail", "load", "acquire"), ("STORE(tail, t + 1, release)", "store", "release")),
     10: (("STORE(node[last].next", "store", "release"), ("LOAD(node[first].next", "load", "acquire")),
-    11: (("STORE(number, n + 2, release)", "store", "release"), ("const uint64_t n = LOAD(number, acquire)", "load", "acquire"),
-         ("STORE(taken, n, release)", "store", "release")),
+    11: (
+        ("STORE(number, n + 2, release)", "store", "release"),
+        ("const uint64_t n = LOAD(number, acquire)", "load", "acquire"),
+        ("STORE(taken, n, release)", "store", "release"),
+    ),
     7: (("if (BUG != 11) atomic_thread_fence", "fence", "seq_cst"), ("atomic_thread_fence(memory_order_seq_cst);\n        if (h ==", "fence", "seq_cst")),
 }
 
@@ -76,7 +94,7 @@ class Orders:
             self.check(f"orders: weakest of form {form}", status == 0 and took and float(took[1]) < 5, (status, printed))
             found = dict(re.findall(r"(?m)^  (orders\.h:\d+ +\w+) (\w+)", printed.split("all lowered together")[-1]))
             for line, kind, order in wanted:
-                at = text[:text.index(line, section)].count("\n") + 1
+                at = text[: text.index(line, section)].count("\n") + 1
                 got = next((value for key, value in found.items() if key.split() == [f"orders.h:{at}", kind]), None)
                 self.check(f"orders: weakest of form {form}, line {at}", got == order if order else got in ("relaxed", "acquire"), (got, printed))
         status, printed = self.explore("broken/orders.c -- -DBUG=1", "--orders")
@@ -89,7 +107,9 @@ class Orders:
         self.check("explore: draws", status == 0 and " all lawful\n" in printed, (status, printed))
         status, out, _ = self.run("$ROOM/draws bug")
         printed = out.decode()
-        good = status == 3 and re.search(r"(?m)^found in execution [\d,]+, with (\d preemptions?, )?2 draws, after", printed) and " draws 2 at draws.c:" in printed
+        good = (
+            status == 3 and re.search(r"(?m)^found in execution [\d,]+, with (\d preemptions?, )?2 draws, after", printed) and " draws 2 at draws.c:" in printed
+        )
         self.check("explore: draws, a bug", good, (status, printed))
         schedule = re.search(r"(?m)^schedule: (.*)$", printed)[1]
         status, out, _ = self.run(f"EXPLORE_SCHEDULE={shlex.quote(schedule)} $ROOM/draws bug")
@@ -131,12 +151,16 @@ class Orders:
         status, printed = self.explore("broken/orders.c -- -DFORM=1", "--strict", OLDER=0)
         self.check("explore --strict, sequentially consistent", status == 0, (status, printed))
         status, printed = self.explore("tests/late.c", "--late")
-        good = status == 0 and re.search(r"(?m)^perhaps delayed: the consumer's load of slot(\+8)? \(late.c:\d+\) may find the producer's later store \(late.c:\d+\), ", printed)
+        good = status == 0 and re.search(
+            r"(?m)^perhaps delayed: the consumer's load of slot(\+8)? \(late.c:\d+\) may find the producer's later store \(late.c:\d+\), ", printed
+        )
         self.check("explore --late", good and re.search(r"(?m)^schedule: P", printed), (status, printed))
         status, printed = self.explore("tests/late.c", "")
         self.check("explore without --late", status == 0 and "perhaps delayed" not in printed, (status, printed))
         status, printed = self.explore("tests/late.c -- -DSIZES", "")
-        self.check("explore: several sizes", status == 0 and re.search(r"(?m)^of (slot\S* ?)+,?.* not all older values are tried: ", printed), (status, printed))
+        self.check(
+            "explore: several sizes", status == 0 and re.search(r"(?m)^of (slot\S* ?)+,?.* not all older values are tried: ", printed), (status, printed)
+        )
         status, printed = self.explore("broken/orders.c -- -DBUG=1", "--paths")
         self.check("explore --paths", status == 3 and f" finds at {self.here}/broken/orders.h:" in printed, (status, printed))
         status, printed = self.explore("broken/orders.c -- -DBUG=14", "", SCHEDULE="P14 C P4:fail C9:old2")
@@ -152,9 +176,14 @@ class Orders:
         self.check("explore --part", status == 0 and "This holds of this part of the executions, " in printed, (status, printed))
         status, printed = self.explore("broken/orders.c -- -DFORM=7", "--jobs 4")
         self.check("explore --jobs: what it means", status == 0 and "This holds of this test, " in printed, (status, printed))
-        for words, wanted in (("--jobs 0 x.c", "--jobs needs a whole number from 1"), ("--bound x x.c", "invalid int value: 'x'"), ("--what x.c", "--what"),
-                              ("--jobs 2 --part 1/2 x.c", "it cannot be combined with --part"), ("--orders --jobs 2 x.c", "--orders cannot be combined with --jobs"),
-                              ("--junit /nowhere/x.xml tests/late.c", "explore: /nowhere/x.xml: No such file or directory")):
+        for words, wanted in (
+            ("--jobs 0 x.c", "--jobs needs a whole number from 1"),
+            ("--bound x x.c", "invalid int value: 'x'"),
+            ("--what x.c", "--what"),
+            ("--jobs 2 --part 1/2 x.c", "it cannot be combined with --part"),
+            ("--orders --jobs 2 x.c", "--orders cannot be combined with --jobs"),
+            ("--junit /nowhere/x.xml tests/late.c", "explore: /nowhere/x.xml: No such file or directory"),
+        ):
             status, printed = self.explore(words)
             self.check(f"explore {words}", status == 2 and wanted in printed, (status, printed))
 

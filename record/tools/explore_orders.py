@@ -16,11 +16,21 @@ import time
 import explore_parts
 
 # The orders as weak as this one or weaker.
-WEAKER = {"relaxed": {"relaxed"}, "acquire": {"relaxed", "acquire"}, "release": {"relaxed", "release"},
-          "acq_rel": {"relaxed", "acquire", "release", "acq_rel"}, "seq_cst": {"relaxed", "acquire", "release", "acq_rel", "seq_cst"}}
+WEAKER = {
+    "relaxed": {"relaxed"},
+    "acquire": {"relaxed", "acquire"},
+    "release": {"relaxed", "release"},
+    "acq_rel": {"relaxed", "acquire", "release", "acq_rel"},
+    "seq_cst": {"relaxed", "acquire", "release", "acq_rel", "seq_cst"},
+}
 # The orders that an access of a kind may have, weakest first. A relaxed fence is no fence.
-ORDERS = {"load": ("relaxed", "acquire", "seq_cst"), "store": ("relaxed", "release", "seq_cst"), "failure": ("relaxed", "acquire", "seq_cst"),
-          "update": ("relaxed", "acquire", "release", "acq_rel", "seq_cst"), "fence": ("relaxed", "acquire", "release", "acq_rel", "seq_cst")}
+ORDERS = {
+    "load": ("relaxed", "acquire", "seq_cst"),
+    "store": ("relaxed", "release", "seq_cst"),
+    "failure": ("relaxed", "acquire", "seq_cst"),
+    "update": ("relaxed", "acquire", "release", "acq_rel", "seq_cst"),
+    "fence": ("relaxed", "acquire", "release", "acq_rel", "seq_cst"),
+}
 NAMES = {"failure": "failing compare-and-swap", "update": "read-modify-write"}
 # A site in the text: its place, what it does, its order, and its addresses in the program (a line may have several).
 Site = collections.namedtuple("Site", "place what order at")
@@ -71,6 +81,7 @@ class Search:
         def by_line(site):
             file, line = re.fullmatch(r"(.*?)(?::(\d+))?", site.place).groups()
             return file, int(line or 0), site.what
+
         self.sites = sorted((Site(place, what, order, tuple(at)) for (place, what, order), at in found.items()), key=by_line)
         return status, text
 
@@ -106,7 +117,7 @@ class Search:
         for order in ORDERS[self.sites[i].what]:
             if order == orders[i] or not at_most(order, orders[i]) or any(at_most(it, order) for it in enough):
                 continue
-            found = self.outcome([*orders[:i], order, *orders[i + 1:]])
+            found = self.outcome([*orders[:i], order, *orders[i + 1 :]])
             tried.append((order, found))
             if found is None:
                 enough.append(order)
@@ -123,7 +134,7 @@ class Search:
         """What goes wrong with the orders just below that of site i."""
         less = [it for it in ORDERS[self.sites[i].what] if it != orders[i] and at_most(it, orders[i])]
         nearest = [it for it in less if not any(it != other and at_most(it, other) for other in less)]
-        return [(it, self.outcome([*orders[:i], it, *orders[i + 1:]])) for it in nearest]
+        return [(it, self.outcome([*orders[:i], it, *orders[i + 1 :]])) for it in nearest]
 
 
 def print_rows(search, orders, wide):
@@ -167,7 +178,9 @@ def search(program, name, env, room):
     print("all lowered together, explored as a whole:")
     print_set(it, lowest, wide)
     executions, bound = it.report.get("executions", 0), it.report.get("bound", 0)
-    print(f"This holds of {os.path.basename(name)} within a bound of {bound} ({executions:,} executions with the last orders): a larger test, or bound, may need more.")
+    print(
+        f"This holds of {os.path.basename(name)} within a bound of {bound} ({executions:,} executions with the last orders): a larger test, or bound, may need more."
+    )
     never = explore_parts.never_reached(it.report)
     if never:
         print(f"never reached: {', '.join(never)}")

@@ -94,8 +94,10 @@ def print_merged(whole, parts, last):
         print("not all: the time ran out")
     if whole["cut"]:
         print(f"{whole['cut']:,} of them were cut")
-    print(f"reached: full {whole['full']:,}, empty {whole['empty']:,}, no reason given {whole['nothing']:,}, told {whole['told']:,}, overlapped "
-          f"{whole['overlapped']:,}, inside {whole['surely_inside']} {whole['perhaps_inside']}, older values in {whole['older']:,}")
+    print(
+        f"reached: full {whole['full']:,}, empty {whole['empty']:,}, no reason given {whole['nothing']:,}, told {whole['told']:,}, overlapped "
+        f"{whole['overlapped']:,}, inside {whole['surely_inside']} {whole['perhaps_inside']}, older values in {whole['older']:,}"
+    )
     never = never_reached(whole)
     if never:
         print(f"never reached: {', '.join(never)}")
@@ -103,11 +105,15 @@ def print_merged(whole, parts, last):
 
 
 def write_junit(path, name, status, text, seconds):
-    suite = ElementTree.Element("testsuite", name="explore", tests="1", failures=str(int(status in (3, 4))), errors=str(int(status not in (0, 3, 4))), time=f"{seconds:.3f}")
+    suite = ElementTree.Element(
+        "testsuite", name="explore", tests="1", failures=str(int(status in (3, 4))), errors=str(int(status not in (0, 3, 4))), time=f"{seconds:.3f}"
+    )
     case = ElementTree.SubElement(suite, "testcase", classname="explore", name=name, time=f"{seconds:.3f}")
     if status != 0:
         lines = [line for line in text.split("\n") if line]
-        words = next((line for line in lines if line.startswith(("fault", "data race", "use after", "hangs", "waits", "both wait", "crash"))), lines[0] if lines else "")
+        words = next(
+            (line for line in lines if line.startswith(("fault", "data race", "use after", "hangs", "waits", "both wait", "crash"))), lines[0] if lines else ""
+        )
         ElementTree.SubElement(case, "failure" if status in (3, 4) else "error", message=words).text = text
     else:
         ElementTree.SubElement(case, "system-out").text = text

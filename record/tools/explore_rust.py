@@ -23,8 +23,11 @@ TARGET = "x86_64-unknown-linux-gnu"
 # still are, such as the growth of a Vec<u8>)
 SEEN = "-Zsanitizer=thread -Zshare-generics=no -Cpanic=abort -Copt-level=1 -Ccodegen-units=1 -Cdebuginfo=2".split()
 # More flags, each given if this rustc has it; with its name in the list of flags.
-FURTHER = (("-Z", "external-clangrt", "-Zexternal-clangrt"), ("-C", "unsafe-allow-abi-mismatch", "-Cunsafe-allow-abi-mismatch=sanitizer"),
-           ("-C", "dwarf-version", "-Cdwarf-version=4"))
+FURTHER = (
+    ("-Z", "external-clangrt", "-Zexternal-clangrt"),
+    ("-C", "unsafe-allow-abi-mismatch", "-Cunsafe-allow-abi-mismatch=sanitizer"),
+    ("-C", "dwarf-version", "-Cdwarf-version=4"),
+)
 # The linker for a rustc without -Zexternal-clangrt, which would link the sanitizer's library.
 LINKER = """#!/bin/sh
 for word; do
@@ -46,8 +49,10 @@ REPLACED = (
     (r"std::thread::thread::Thread::park", "explore_std_park_thread"),
     (r"std::thread::thread::Thread::park_timeout", "explore_std_park_thread_timeout"),
 )
-UNSEEN = (r"std::(sys|sys_common|sync)::.*(Mutex|Condvar|RwLock|Once|Barrier|ReentrantLock|Parker|SyncWaker|SignalToken|WaitToken)::\w+",
-          r"std::thread::(.*::)?(park|park_timeout|park_timeout_ms|unpark)")
+UNSEEN = (
+    r"std::(sys|sys_common|sync)::.*(Mutex|Condvar|RwLock|Once|Barrier|ReentrantLock|Parker|SyncWaker|SignalToken|WaitToken)::\w+",
+    r"std::thread::(.*::)?(park|park_timeout|park_timeout_ms|unpark)",
+)
 # (used by std itself, or without accesses that another thread makes)
 SEEN_ENOUGH = r".*::(new|fmt|default|drop|is_leader|is_poisoned|timed_out|poison|raw|verify)"
 
@@ -87,6 +92,7 @@ def answer(command):
 
 # ---- the compiler ----
 
+
 class Compiler:
     """rustc: $RUSTC, or the one on the PATH, and the flags that it needs to instrument accesses."""
 
@@ -116,8 +122,10 @@ class Compiler:
         try:
             printed = subprocess.run([*self.command, "-vV"], capture_output=True, text=True, check=False)
         except OSError as error:
-            stop(f"{self.command[0]}: {error.strerror}: a test in Rust needs rustc {OLDEST[0]}.{OLDEST[1]} or newer "
-                 "(Debian: apt-get install rustc); set RUSTC=.. for another one")
+            stop(
+                f"{self.command[0]}: {error.strerror}: a test in Rust needs rustc {OLDEST[0]}.{OLDEST[1]} or newer "
+                "(Debian: apt-get install rustc); set RUSTC=.. for another one"
+            )
         version = re.search(r"(?m)^release: (\d+)\.(\d+)", printed.stdout)
         host = re.search(r"(?m)^host: (\S+)", printed.stdout)
         if not version or not host:
@@ -159,6 +167,7 @@ class Compiler:
 
 
 # ---- the crates ----
+
 
 class Crate:
     """A crate that the test needs: its name, its file, its edition (None: that of the test), its features, the crates that it needs (None:
@@ -211,9 +220,12 @@ def crate_of_folder(name, folder, wanted):
     env = {"CARGO_MANIFEST_DIR": os.path.abspath(folder), "CARGO_PKG_NAME": package.get("name", ""), "CARGO_PKG_VERSION": version}
     env.update(zip(("CARGO_PKG_VERSION_MAJOR", "CARGO_PKG_VERSION_MINOR", "CARGO_PKG_VERSION_PATCH"), version.split("-")[0].split(".")))
     features = closure(manifest.get("features", {}), wanted)
-    needs = [need.replace("-", "_") for need, how in manifest.get("dependencies", {}).items()
-             if not isinstance(how, dict) or not how.get("optional") or need in features]
-    edition = edition if isinstance(edition, str) else None     # (else it is inherited from a workspace)
+    needs = [
+        need.replace("-", "_")
+        for need, how in manifest.get("dependencies", {}).items()
+        if not isinstance(how, dict) or not how.get("optional") or need in features
+    ]
+    edition = edition if isinstance(edition, str) else None  # (else it is inherited from a workspace)
     crate = Crate(name or own_name, source, edition, features, needs, env, os.path.dirname(os.path.abspath(folder)))
     crate.has_script = bool(package.get("build", os.path.exists(f"{folder}/build.rs")))
     return crate
@@ -258,6 +270,7 @@ def in_order(crates):
 
 # ---- what record/explore calls ----
 
+
 def is_rust(sources):
     """Whether these are the sources of a test in Rust."""
     return any(source.endswith(".rs") for source in sources)
@@ -279,12 +292,11 @@ def build(sources, flags, program, room, explorer):
     crates = in_order(with_needs(map(crate_of, words)))
     scripts = [crate.name for crate in crates if crate.has_script]
     if scripts:
-        print(f"explore: the build script of {', '.join(scripts)} is not run: flags that it would set can be given after --, as --cfg NAME",
-              file=sys.stderr)
+        print(f"explore: the build script of {', '.join(scripts)} is not run: flags that it would set can be given after --, as --cfg NAME", file=sys.stderr)
     editions = [flag for flag in flags if flag.startswith("--edition=")] or ["--edition=2021"]
     if "--edition" in flags:
         at = flags.index("--edition")
-        editions, flags = [f"--edition={flags[at + 1] if at + 1 < len(flags) else ''}"], flags[:at] + flags[at + 2:]
+        editions, flags = [f"--edition={flags[at + 1] if at + 1 < len(flags) else ''}"], flags[:at] + flags[at + 2 :]
     flags = [flag for flag in flags if not flag.startswith("--edition=")]
     known = [f"-L{room}"]
     given = {crate.name for crate in crates}
@@ -294,8 +306,22 @@ def build(sources, flags, program, room, explorer):
         missing = [need for need in crate.needs or () if need not in given]
         hint = f"\n  ({crate.name} needs {', '.join(missing)}, too: give each by its folder or as NAME=FILE)" if missing else ""
         edition = [f"--edition={crate.edition}"] if crate.edition else editions
-        run([*compiler.command, *compiler.seen, *edition, *own, *features, *known, f"--crate-name={crate.name}", "--crate-type=rlib",
-             f"--out-dir={room}", crate.source], crate.env, hint)
+        run(
+            [
+                *compiler.command,
+                *compiler.seen,
+                *edition,
+                *own,
+                *features,
+                *known,
+                f"--crate-name={crate.name}",
+                "--crate-type=rlib",
+                f"--out-dir={room}",
+                crate.source,
+            ],
+            crate.env,
+            hint,
+        )
         known += ["--extern", f"{crate.name}={room}/lib{crate.name}.rlib"]
     linked = [f"-Clink-arg={explorer(compiler.c, room)}", f"-Clink-arg={os.path.abspath(archive)}", f"-Clink-arg=@{compiler.waits(room)}", "-Clink-arg=-lc"]
     run([*compiler.command, *compiler.seen, *editions, *flags, *known, *linked, "-o", program, test])

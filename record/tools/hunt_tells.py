@@ -36,7 +36,7 @@ def told(hunt):
         yield "(no call overlapped one of the other side: let both threads wait for each other first, make more calls, leave two processors free)"
     if hunt.reached["nothing"] and {"full", "empty"} & set(never):
         yield "(calls that ended with no reason given are judged less strictly: if a call knows that the queue was full or empty, record it so)"
-    if not hunt.rests.lacks and not rests and any(way.rests for way in hunt.ways[:hunt.runs]):
+    if not hunt.rests.lacks and not rests and any(way.rests for way in hunt.ways[: hunt.runs]):
         yield "(no thread was paused: the runs are too short, or COMMAND has handlers for all signals)"
     if hunt.cut:
         yield f"(in {hunt.cut:,} of them a log was full, so their ends are missing: give the recorder larger logs)"
@@ -99,10 +99,19 @@ def said_of(text):
 def write_json(hunt, file):
     """Writes the findings as a JSON object."""
     result = {
-        "command": hunt.command, "status": hunt.status(), "runs": hunt.runs, "lawful": hunt.lawful, "cut": hunt.cut, "seconds": round(hunt.took, 2),
-        "rests": hunt.rests.counts()[1], "without_rests": hunt.rests.lacks, "ways": [str(way) for way in hunt.ways],
-        "reached": {**{word: hunt.reached[word] for word in REACHED}, "inside": hunt.inside}, "never_reached": hunt.never_reached(),
-        "found": [dataclasses.asdict(kind) for kind in hunt.kinds.values()]}
+        "command": hunt.command,
+        "status": hunt.status(),
+        "runs": hunt.runs,
+        "lawful": hunt.lawful,
+        "cut": hunt.cut,
+        "seconds": round(hunt.took, 2),
+        "rests": hunt.rests.counts()[1],
+        "without_rests": hunt.rests.lacks,
+        "ways": [str(way) for way in hunt.ways],
+        "reached": {**{word: hunt.reached[word] for word in REACHED}, "inside": hunt.inside},
+        "never_reached": hunt.never_reached(),
+        "found": [dataclasses.asdict(kind) for kind in hunt.kinds.values()],
+    }
     json.dump(result, file, indent=1)
     file.write("\n")
 

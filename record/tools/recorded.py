@@ -17,10 +17,11 @@ from ring_calls import WORDS
 
 LAUNCHER = os.path.join(os.path.dirname(RECORD), "lamport_ring")
 KINDS = {words: kind for kind, words in enumerate(WORDS)}
-(PUT, CLOSE, TAKE, STORED, PUT_SOME, FULL, PUT_SHORT, PUT_NOTHING, CLOSED,
- ITEM, TAKE_SOME, EMPTY, TAKE_SHORT, TAKE_NOTHING, TOLD) = range(len(WORDS))
-LINE = re.compile(r"(?:(?:P put|C item|C some)(?: (?:0|[1-9][0-9]*))+|P (?:stored|(?:stored|some) [1-9][0-9]*|full|short|nothing|closed?)|"
-                  r"C (?:take|take (?:[2-9]|[1-9][0-9]+)|empty|short|nothing|closed))\n")
+(PUT, CLOSE, TAKE, STORED, PUT_SOME, FULL, PUT_SHORT, PUT_NOTHING, CLOSED, ITEM, TAKE_SOME, EMPTY, TAKE_SHORT, TAKE_NOTHING, TOLD) = range(len(WORDS))
+LINE = re.compile(
+    r"(?:(?:P put|C item|C some)(?: (?:0|[1-9][0-9]*))+|P (?:stored|(?:stored|some) [1-9][0-9]*|full|short|nothing|closed?)|"
+    r"C (?:take|take (?:[2-9]|[1-9][0-9]+)|empty|short|nothing|closed))\n"
+)
 # Lines without numbers: most of a recording.
 BARE = {f"{words}\n": kind for words, kind in KINDS.items() if LINE.fullmatch(f"{words}\n")}
 OUT_OF_TURN, NOT_LINEARIZABLE = 1, 2
@@ -46,7 +47,7 @@ class Recording:
         at = 0
         for line in self.lines:
             end = at + (line >> 32)
-            yield line & 0xffffffff, self.numbers[at:end]
+            yield line & 0xFFFFFFFF, self.numbers[at:end]
             at = end
 
     def first_line(self, head):

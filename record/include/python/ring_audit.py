@@ -32,9 +32,15 @@ BEFORE, BEHIND = 6, 2
 # If this many calls came one after the other, none overlapping one of the other side, stderr says so.
 ALONE = 1000
 # The words of each verdict, in order.
-WORDS = ("lawful", "fault: line {line}: out of turn", "fault: line {line}: {cause}", "refused: calls line {line} is not a line of the format",
-         "refused: no room for the items of line {line}", "refused: calls have too many lines",
-         "refused: the state is none that libring_audit left")
+WORDS = (
+    "lawful",
+    "fault: line {line}: out of turn",
+    "fault: line {line}: {cause}",
+    "refused: calls line {line} is not a line of the format",
+    "refused: no room for the items of line {line}",
+    "refused: calls have too many lines",
+    "refused: the state is none that libring_audit left",
+)
 NO_ROOM = 4
 
 
@@ -46,20 +52,35 @@ _u64, _u32, _size, _bool, _at = ctypes.c_uint64, ctypes.c_uint32, ctypes.c_size_
 _Offered = _struct("_Offered", (_u64, "item offered_at stored_at"))
 _Taken = _struct("_Taken", (_u64, "item taken_at"))
 _Line = _struct("_Line", (_u32, "word count"))
-_Under = _struct("_Under", (_size, "full most offered before_put wanted before_take begun_items"), (_u32, "put begun"),
-                 (_bool, "bounded again take ended shut"))
-_Counts = _struct("_Counts", (_size, "calls stored taken full empty nothing"), (_bool, "told"),
-                  (_size, "surely_inside perhaps_inside overlapped under_way"))
+_Under = _struct(
+    "_Under", (_size, "full most offered before_put wanted before_take begun_items"), (_u32, "put begun"), (_bool, "bounded again take ended shut")
+)
+_Counts = _struct("_Counts", (_size, "calls stored taken full empty nothing"), (_bool, "told"), (_size, "surely_inside perhaps_inside overlapped under_way"))
 _Found = _struct("_Found", (_u64, "line against words"), (_u32, "verdict"))
-_State = _struct("_State", (_at, "offered"), (_size, "offered_room"), (_at, "taken"), (_size, "taken_room"),
-                 (_size, "offered_first offered_used taken_first taken_used limit"), (_Taken, "last_taken"),
-                 (_u64, "line ended_at told_at put_at stored_at"), (_Under, "calls"), (_Counts, "report"), (_bool, "has_ended has_told put_overlaps take_overlaps"))
+_State = _struct(
+    "_State",
+    (_at, "offered"),
+    (_size, "offered_room"),
+    (_at, "taken"),
+    (_size, "taken_room"),
+    (_size, "offered_first offered_used taken_first taken_used limit"),
+    (_Taken, "last_taken"),
+    (_u64, "line ended_at told_at put_at stored_at"),
+    (_Under, "calls"),
+    (_Counts, "report"),
+    (_bool, "has_ended has_told put_overlaps take_overlaps"),
+)
 # What audit --calls counts in a lawful recording; inside: surely at some moment, and at most.
 Report = collections.namedtuple("Report", "calls stored taken full empty nothing told inside overlapped open")
 _loaded = None
 # The place of the library in dist/, for each system and machine.
-_SHIPPED = {"Linux x86_64": "libring_audit.so.1", "Linux aarch64": "aarch64-linux/libring_audit.so.1", "Darwin x86_64": "x86_64-macos/libring_audit.1.dylib",
-            "Darwin arm64": "aarch64-macos/libring_audit.1.dylib", "Windows AMD64": "x86_64-windows/ring_audit.dll"}
+_SHIPPED = {
+    "Linux x86_64": "libring_audit.so.1",
+    "Linux aarch64": "aarch64-linux/libring_audit.so.1",
+    "Darwin x86_64": "x86_64-macos/libring_audit.1.dylib",
+    "Darwin arm64": "aarch64-macos/libring_audit.1.dylib",
+    "Windows AMD64": "x86_64-windows/ring_audit.dll",
+}
 # How many calls there were in the lawful recordings of all rounds, and how many of them overlapped.
 _counted = [0, 0]
 
@@ -130,7 +151,7 @@ class Audit(ring_calls.Calls):
             if found.verdict == NO_ROOM:
                 found.line = self._state.line + 1
             if found.verdict:
-                self.found, self._fault = found, WORDS[found.verdict].format(line=found.line, cause=cause.raw[:found.words].decode())
+                self.found, self._fault = found, WORDS[found.verdict].format(line=found.line, cause=cause.raw[: found.words].decode())
         return not self._fault
 
     def fault(self):
@@ -180,8 +201,11 @@ def _count(report):
     before = _counted[0]
     _counted[:] = before + report.calls, _counted[1] + report.overlapped
     if _counted[1] == 0 and before < ALONE <= _counted[0]:
-        print(f"ring_audit: of {_counted[0]} calls none overlapped one of the other side, so they show what one thread shows: let both threads wait "
-              "for each other first, make more calls, leave two processors free", file=sys.stderr)
+        print(
+            f"ring_audit: of {_counted[0]} calls none overlapped one of the other side, so they show what one thread shows: let both threads wait "
+            "for each other first, make more calls, leave two processors free",
+            file=sys.stderr,
+        )
 
 
 def lawful(recorder, head):

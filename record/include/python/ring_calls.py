@@ -17,8 +17,23 @@ import heapq
 import itertools
 import sys
 
-WORDS = ("P put", "P close", "C take", "P stored", "P some", "P full", "P short", "P nothing", "P closed",
-         "C item", "C some", "C empty", "C short", "C nothing", "C closed")
+WORDS = (
+    "P put",
+    "P close",
+    "C take",
+    "P stored",
+    "P some",
+    "P full",
+    "P short",
+    "P nothing",
+    "P closed",
+    "C item",
+    "C some",
+    "C empty",
+    "C short",
+    "C nothing",
+    "C closed",
+)
 NEVER = 2**64 - 1
 
 
@@ -45,7 +60,7 @@ class Log:
         at = 0
         while at < self.used and self.words[at + 1] < cut:
             end = at + 2 + (self.words[at] >> 8)
-            yield self.words[at + 1], self.words[at] & 255, self.words[at + 2:end]
+            yield self.words[at + 1], self.words[at] & 255, self.words[at + 2 : end]
             at = end
 
 

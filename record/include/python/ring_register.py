@@ -54,7 +54,7 @@ class Log:
         at = 0
         while at < self.used and self.words[at + 1] < cut:
             end = at + 2 + (self.words[at] >> 8)
-            yield self.words[at + 1], name, self.words[at] & 255, self.words[at + 2:end]
+            yield self.words[at + 1], name, self.words[at] & 255, self.words[at + 2 : end]
             at = end
 
 

@@ -26,7 +26,9 @@ class Judge:
     """A program that reads a test from a line and prints its outcomes."""
 
     def __init__(self, command, **more):
-        self.process = subprocess.Popen(command, stdin=subprocess.PIPE, stdout=subprocess.PIPE, stderr=subprocess.DEVNULL, text=True, env={**os.environ, **more})
+        self.process = subprocess.Popen(
+            command, stdin=subprocess.PIPE, stdout=subprocess.PIPE, stderr=subprocess.DEVNULL, text=True, env={**os.environ, **more}
+        )
 
     def outcomes(self, test):
         self.process.stdin.write(f"{test}\n")
@@ -50,11 +52,16 @@ def random_test(dice):
         for _ in range(dice.choice((2, 3, 3, 4, 4))):
             kind, at = dice.choices("WRXACF", (8, 8, 1, 1, 1, 4 if style == "fences" else 2))[0], dice.choice(places)
             value += kind in "WXC"
-            words.append({
-                "W": lambda: f"W{at}{value}{dice.choice(orders['W'])}", "R": lambda: f"R{at}{dice.choice(orders['R'])}",
-                "X": lambda: f"X{at}{value}{dice.choice(orders['U'])}", "A": lambda: f"A{at}1{dice.choice(orders['U'])}",
-                "C": lambda: f"C{at}{dice.randint(0, min(value, 3))}{value}{dice.choice(orders['U'])}{dice.choice(orders['R'])}",
-                "F": lambda: f"F{dice.choice(orders['F'])}"}[kind]())
+            words.append(
+                {
+                    "W": lambda: f"W{at}{value}{dice.choice(orders['W'])}",
+                    "R": lambda: f"R{at}{dice.choice(orders['R'])}",
+                    "X": lambda: f"X{at}{value}{dice.choice(orders['U'])}",
+                    "A": lambda: f"A{at}1{dice.choice(orders['U'])}",
+                    "C": lambda: f"C{at}{dice.randint(0, min(value, 3))}{value}{dice.choice(orders['U'])}{dice.choice(orders['R'])}",
+                    "F": lambda: f"F{dice.choice(orders['F'])}",
+                }[kind]()
+            )
         sides.append(" ".join(words))
     return " | ".join(sides)
 
@@ -85,7 +92,9 @@ def main(litmus, axioms, count, seed):
             wanted = known == "allowed" or (known.startswith("C++20 allows") and "RC11" not in known and rules == "20")
             good = good and (not is_known or has(permitted, weak) == wanted)
         found += len(permitted)
-        counts.check(good, f"{name} {rules}: {test}", f"missing {sorted(permitted - explored)[:3]}, too many {sorted(explored - permitted)[:3]} {printed[:200]}")
+        counts.check(
+            good, f"{name} {rules}: {test}", f"missing {sorted(permitted - explored)[:3]}, too many {sorted(explored - permitted)[:3]} {printed[:200]}"
+        )
     print(f"{len(named_tests())} named tests and {count} random ones, {found} outcomes, {time.monotonic() - began:.1f} s")
     return counts.end()
 

@@ -2,8 +2,21 @@
 last of it. Most replies are ones that a queue with this knowledge could give; some are arbitrary."""
 from orders import CONSUMER, PRODUCER, Call, Case, stored_by, taken_by
 
-HEADS = ("queue", *("queue 1",) * 3, *("queue 2",) * 4, *("queue 3",) * 3, "queue 4", "queue 0 1", "queue 0 2", "queue 1 2", "queue 1 3",
-         "queue 2 3", "queue 2 5", "queue 18446744073709551615", "queue 1 18446744073709551615")
+HEADS = (
+    "queue",
+    *("queue 1",) * 3,
+    *("queue 2",) * 4,
+    *("queue 3",) * 3,
+    "queue 4",
+    "queue 0 1",
+    "queue 0 2",
+    "queue 1 2",
+    "queue 1 3",
+    "queue 2 3",
+    "queue 2 5",
+    "queue 18446744073709551615",
+    "queue 1 18446744073709551615",
+)
 ENDS = (("stored", "some", "full", "short", "nothing", "closed"), ("item", "some", "empty", "short", "nothing", "closed"))
 INFINITE = float("inf")
 # a take may ask for all that there are

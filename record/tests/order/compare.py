@@ -99,8 +99,12 @@ def compare_long(judge):
     many = " ".join(map(str, range(1, 20001)))
     wrong = ["C take", "C item 9"]
     right = "fresh\tstrict\tnot handed over: line 5: "
-    for lines, want in ((calls[:8000], right), (calls + wrong, right), ([*wrong, *calls], "fault: line 3: item 9, but item 1 of line 4 is next\t"),
-                        ([f"P put {many}", "P stored", *wrong], "fresh\tstrict\thanded\t")):
+    for lines, want in (
+        (calls[:8000], right),
+        (calls + wrong, right),
+        ([*wrong, *calls], "fault: line 3: item 9, but item 1 of line 4 is next\t"),
+        ([f"P put {many}", "P stored", *wrong], "fresh\tstrict\thanded\t"),
+    ):
         text = "\n".join(["queue", *(f"1 0 {line}" for line in lines), "", ""])
         ran = subprocess.run([judge], input=text, capture_output=True, text=True, check=False)
         check(ran.stdout.startswith(want) and ran.stdout.endswith("\ttoo long\n") == (lines != calls[:8000]), "a long run", ran.stdout)

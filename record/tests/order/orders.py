@@ -156,8 +156,13 @@ def lines_at_fault(case):
     full, most = case.bounds
     closes = [at for at, call in enumerate(puts) if call.begin == "close"]
     all_stored = sum(map(stored_by, puts))
-    offered = [(item, put) for at, put in enumerate(puts) if put.begin == "put" for item in put.offered[: stored_by(put) if put.end else None]
-               if put.end or not closes or at < closes[0]]
+    offered = [
+        (item, put)
+        for at, put in enumerate(puts)
+        if put.begin == "put"
+        for item in put.offered[: stored_by(put) if put.end else None]
+        if put.end or not closes or at < closes[0]
+    ]
     found, told, passed = set(), False, 0
     number_of = {id(call): at for row in case.rows for at, call in enumerate(row)}
 

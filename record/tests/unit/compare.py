@@ -32,8 +32,23 @@ AUDIT = shlex.split(os.environ.get("AUDIT", ""))
 if not AUDIT:
     AUDIT = [subprocess.check_output([f"{TOP}/lamport_ring", "--which"], text=True).strip(), "audit", "--calls"]
 # The recorder's name of each kind of line.
-NAMES = ("put", "close", "take", "stored", "some", "full", "put_short", "put_nothing", "closed",
-         "item", "some_items", "empty", "take_short", "take_nothing", "told")
+NAMES = (
+    "put",
+    "close",
+    "take",
+    "stored",
+    "some",
+    "full",
+    "put_short",
+    "put_nothing",
+    "closed",
+    "item",
+    "some_items",
+    "empty",
+    "take_short",
+    "take_nothing",
+    "told",
+)
 # How often a judge reports that a recording has no call, if it is more than once: also when it is written, or judged twice.
 REPORTS = {"judge_rs": 2, "judge_go": 3}
 counts = Counting(most=10)
@@ -67,8 +82,13 @@ class Recording:
         named = {int(it) for it in re.findall(r"line (\d+)", words)}
         marked = {number for number, line in shown.items() if line[0] == ">"}
         round_it = set(range(max(at - 6, 1), min(at + 2, len(self.lines)) + 1))
-        return (words == self.words and all(line[9:] == f" {self.lines[number - 1]}" for number, line in shown.items())
-                and list(shown) == sorted(round_it | marked) and {at} <= marked <= named and len(marked) <= 2)
+        return (
+            words == self.words
+            and all(line[9:] == f" {self.lines[number - 1]}" for number, line in shown.items())
+            and list(shown) == sorted(round_it | marked)
+            and {at} <= marked <= named
+            and len(marked) <= 2
+        )
 
 
 def in_batches(rounds, head):
@@ -114,17 +134,24 @@ def without_full_logs(said):
 def is_told_of_none(said_of, times):
     """Whether stderr, said_of(TEXT), has this many lines more for a cut recording than for a whole one, and others for one without
     calls."""
-    whole, none, cut = ([line for line in said_of(text).splitlines() if line.startswith("ring_calls: ")]
-                        for text in ("queue 8\nP put 1\n", "queue 8\n", "cut queue 8\nP put 1\n"))
-    return (len(none) == len(cut) == len(whole) + times and none[-1].startswith("ring_calls: no call was recorded: ")
-            and cut[-1].startswith("ring_calls: the consumer's log was full after "))
+    whole, none, cut = (
+        [line for line in said_of(text).splitlines() if line.startswith("ring_calls: ")]
+        for text in ("queue 8\nP put 1\n", "queue 8\n", "cut queue 8\nP put 1\n")
+    )
+    return (
+        len(none) == len(cut) == len(whole) + times
+        and none[-1].startswith("ring_calls: no call was recorded: ")
+        and cut[-1].startswith("ring_calls: the consumer's log was full after ")
+    )
 
 
 def is_told_alone(said_of):
     """Whether stderr reports once that none of a thousand calls overlapped, and nothing for fewer calls, or if one pair did."""
     calls = "P put 1\nP stored\nC take\nC item 1\n"
-    few, many, met = ([line for line in said_of(text).splitlines() if line.startswith("ring_audit: ")]
-                      for text in (f"queue 8\n{calls * 249}", f"queue 8\n{calls * 500}", f"queue 8\nP put 1\nC take\nP stored\nC item 1\n{calls * 500}"))
+    few, many, met = (
+        [line for line in said_of(text).splitlines() if line.startswith("ring_audit: ")]
+        for text in (f"queue 8\n{calls * 249}", f"queue 8\n{calls * 500}", f"queue 8\nP put 1\nC take\nP stored\nC item 1\n{calls * 500}")
+    )
     return not few and len(many) == 1 and many[0].startswith("ring_audit: of 1000 calls none overlapped one of the other side, ") and not met
 
 
@@ -204,7 +231,9 @@ def judge_by_python(recordings, kept):
         check(says == [recording.answer] * 2, f"ring_audit.py of {recording.text[-1000:]}", says)
         lawful = len(answers) if recording.is_lawful else int(re.search(r"line (\d+)", recording.words)[1]) - 2
         check(answers == [True] * lawful + [False] * (len(answers) - lawful), f"the answers of ring_audit.py of {recording.text[-1000:]}", answers)
-        good = bool(result) == recording.is_lawful and result.words == repr(result) == recording.words and recording.is_shown(without_full_logs(told.getvalue()))
+        good = (
+            bool(result) == recording.is_lawful and result.words == repr(result) == recording.words and recording.is_shown(without_full_logs(told.getvalue()))
+        )
         check(good, f"lawful of ring_audit.py of {recording.text[-1000:]}", f"{result.words}: {told.getvalue()}")
         if not recording.is_lawful:
             with open(kept, encoding="ascii") as file:
@@ -220,7 +249,11 @@ def main(count, seed, *judges):
     print(f"{len(recordings)} recordings, {sum(kinds.values())} lines, {words['lawful']} lawful, {len(words) - 1} kinds of words of the others")
     for judge in judges:
         judge_by_c(judge, recordings)
-        check(is_told_of_none(functools.partial(said_by, judge), REPORTS.get(os.path.basename(judge), 1)), f"{judge} reports that there is no call", said_by(judge, "queue 8\n"))
+        check(
+            is_told_of_none(functools.partial(said_by, judge), REPORTS.get(os.path.basename(judge), 1)),
+            f"{judge} reports that there is no call",
+            said_by(judge, "queue 8\n"),
+        )
         check(is_told_alone(functools.partial(said_by, judge)), f"{judge} reports that no calls overlap", "another")
     check(is_told_alone(said_by_python), "ring_audit.py reports that no calls overlap", "another")
     check(is_told_of_none(said_by_python, 1), "ring_audit.py reports that there is no call", said_by_python("queue 8\n"))

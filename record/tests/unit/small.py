@@ -111,8 +111,10 @@ def try_shrinks():
             good = all(seen[0] == b"" and seen[1].startswith("shrink: ") and seen[2] == 1 for seen in (by_program, in_process))
             check(good, f"shrink has nothing to do with {text[-1000:]}", (by_program, in_process))
     filled = "".join(f"P put {at}\nP stored\n" for at in range(7))
-    for text, want, said in ((f"{filled}P put 7\nP full\n", "P put 7\nP full\n", "line 17: full, but at most 7 inside since line 16"),
-                             (f"{filled}P put 7 8\nP short\n", "P put 7 8\nP short\n", "line 17: short for 2, but at most 7 inside since line 16")):
+    for text, want, said in (
+        (f"{filled}P put 7\nP full\n", "P put 7\nP full\n", "line 17: full, but at most 7 inside since line 16"),
+        (f"{filled}P put 7 8\nP short\n", "P put 7 8\nP short\n", "line 17: short for 2, but at most 7 inside since line 16"),
+    ):
         head = "queue 8\n" if want.endswith("full\n") else "queue 9\n"
         told = f"shrink: of the whole recording: {said}; record/head finds the first line that fits\n"
         seen = in_both_ways("shrink", (head + text).encode())[:2]
@@ -143,9 +145,13 @@ def try_heads(ring):
         by_program, in_process, _ = in_both_ways("head", text.encode())
         good = by_program == in_process and in_process[0] == f"{want}\n".encode() and said in in_process[1]
         check(good, f"head: {want}", (by_program, in_process))
-    for text, want in (("queue 8\nC take\nC item 1\n", (b"fault: line 3: item 1 was not inside; none is next\n", "", 3)),
-                       ("C take\nC item 1\n", (b"fault: line 3: item 1 was not inside; none is next\n", "", 3)),
-                       ("", (b"", "head: there is no text\n", 1)), ("queue 8\nP put\n", (b"", "", 1)), ("C item 01\n", (b"", "", 1))):
+    for text, want in (
+        ("queue 8\nC take\nC item 1\n", (b"fault: line 3: item 1 was not inside; none is next\n", "", 3)),
+        ("C take\nC item 1\n", (b"fault: line 3: item 1 was not inside; none is next\n", "", 3)),
+        ("", (b"", "head: there is no text\n", 1)),
+        ("queue 8\nP put\n", (b"", "", 1)),
+        ("C item 01\n", (b"", "", 1)),
+    ):
         by_program, in_process, _ = in_both_ways("head", text.encode())
         good = all(seen[0] == want[0] and want[1] in seen[1] and seen[2] == want[2] for seen in (by_program, in_process))
         check(good, f"head of {text}", (by_program, in_process))
