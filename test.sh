@@ -1,7 +1,7 @@
 #!/bin/sh
 # The tests: the program's output and exit status on each example, and what it reports of random histories of queues and registers; failing system
-# calls; the launcher, tools/install, the packages, what is shipped for ARM64 and for other systems, the documents, the steps of docs/USING.md, some
-# of record/; and each #[test], without its proof. The program is the one that ./lamport_ring runs: the shipped one if it was built from these
+# calls; the launcher, tools/install, the packages, what is shipped for ARM64 and for other systems, the documents, the steps of docs/USING.md, the
+# layout of scripts, some of record/; and each #[test], without its proof. The program is the one that ./lamport_ring runs: the shipped one if it was built from these
 # sources. With --prove it is first built here with its proof. What cannot be tested here, for lack of the kit, Python, a C compiler, qemu or Wine,
 # is skipped, and the end, or the part itself, says so. ./gate does everything: every proof from nothing, also those of the tests, and the mutants.
 # The last line is `N passed, M failed`.
@@ -108,7 +108,7 @@ compiler() { for each in "${CC-}" cc gcc clang; do [ -z "$each" ] || command -v 
 
 # These need no program.
 # shellcheck disable=SC2086
-lacks python3 "the tests of the launcher, of what is for ARM64, of the words of faults, of the classes of registers, of the documents, of record/ and of docs/TRUST.md" || try launcher trust $using
+lacks python3 "the tests of the launcher, of what is for ARM64, of the words of faults, of the classes of registers, of the documents, of record/, of the layout of scripts and of docs/TRUST.md" || try launcher trust format $using
 if wait "$building"; then
     PROGRAM=$(./lamport_ring --which) || exit 1
     export PROGRAM
