@@ -319,10 +319,10 @@ def test_views(page, same, _):
 
 
 def give(page, path):
-    """Opens a file."""
+    """Opens a file, and waits until it is read."""
     page.browser.upload("file", path)
     for _ in range(SLOW * 10):
-        if words(page, "note").startswith(os.path.basename(path)):
+        if words(page, "note").startswith(os.path.basename(path)) and page.browser.run("return document.getElementById('stop').hidden"):
             return
         time.sleep(0.1)
 
