@@ -16,7 +16,7 @@ abbrev pub first_place : Side → List Event → ℕ
 first_place s [] = 0
 first_place s (e ∷ es) = (if is_by s e then 0 else suc (first_place s es))
 
--- where an access that a side began at a place ends: at the side's next event, or past the end of the history if there is none
+-- the place at which an access ends that a side began at this place: that of its next event, or past the end of the history if there is none
 abbrev pub end_of : Side → List Event → ℕ → ℕ
 end_of s h start = start + 1 + first_place s (drop (start + 1) h)
 

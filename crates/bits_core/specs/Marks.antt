@@ -1,4 +1,4 @@
--- What marks say about the history of which they are kept. Cited by private functions only.
+-- What marks say about the history that they were made from. Cited by private functions only.
 use Rattle.std.specs.Prelude.{◌≡◌, ℕ, ◌+◌, ◌*◌, ◌<◌, ◌||◌, Bool, false, Option, Some, None, List, length, slice_index_or, slice_set, if◌then◌else◌}
 use Rattle.bits_core.specs.declared.events.Side.{Side}
 use Rattle.bits_core.specs.declared.events.Side.TheVariants.{P, C}

@@ -38,7 +38,7 @@ as_many lines events stand = sym (length-map events (λ (x : RegisterEvent). Som
 -- ---- the line at which a class is lost
 
 module _ (c : Class) (r : Register) (events : List RegisterEvent) (e : RegisterEvent) where
--- the first miss of events stays their first miss after one more
+  -- the first miss of events stays their first miss after one more
   -- again, since this crate does not depend on the text of registers
   first_stays : (p : ℕ) → IsFirstMiss c r events p → IsFirstMiss c r (events ++ e ∷ []) p
   first_stays p miss =

@@ -1,4 +1,4 @@
--- What was taken so far, and whether a take returned Closed, by calls of which the events are a prefix.
+-- What was taken so far, and whether a take returned Closed, by the calls whose accesses begin with these events.
 use Rattle.std.proofs.Common.{◌≡◌, inl, inr, ℕ, suc, ◌+◌, ◌-◌, ◌*◌, ◌%◌, ◌<◌, ◌≤◌, ◌↔◌, Bool, true, false, Option, Some, None, List, [], ◌∷◌, ◌++◌, length, refl, sym, ap, subst, ◌∙◌, arith, append_assoc, append-nil, length-append, if◌then◌else◌, IsTrue}
 use Rattle.std.proofs.lemmas.Bool.{lt-leb, le-leb}
 use Rattle.bits_core.specs.declared.events.Side.TheVariants.{C}
