@@ -65,7 +65,14 @@ def stop(words):
 
 
 class Files(http.server.SimpleHTTPRequestHandler):
+    """Serves the page's files. A browser asks for each of them once, as they do not change during the tests."""
+
+    protocol_version = "HTTP/1.1"  # more than one answer a connection
     extensions_map = {**http.server.SimpleHTTPRequestHandler.extensions_map, ".js": "text/javascript", ".wasm": "application/wasm"}
+
+    def end_headers(self):
+        self.send_header("Cache-Control", "max-age=86400")
+        super().end_headers()
 
     def log_message(self, *_):
         pass
@@ -196,11 +203,20 @@ class Page:
     """The page at an address, as a reader sees and uses it."""
 
     def __init__(self, browser, address):
-        self.browser, self.address = browser, address
+        self.browser, self.address, self.is_other = browser, address, False
 
-    def open(self, asked=""):
-        self.browser.go("about:blank")
-        self.browser.go(f"{self.address}#{asked}")
+    def open(self, asked="", emptied=False):
+        """Loads the page again, with this in its link: at one of two addresses in turn, as a change of the link alone loads nothing. With
+        `emptied` in a new tab, which holds nothing of the pages before."""
+        if emptied:
+            before = self.browser.window()
+            self.browser.open_tab()
+            after = self.browser.window()
+            self.browser.use(before)
+            self.browser.shut()
+            self.browser.use(after)
+        self.is_other = not self.is_other
+        self.browser.go(f"{self.address}{'?' * self.is_other}#{asked}")
         self.browser.until(f"{asked} is shown", f"return document.title !== '{TITLE}'")
         self.settle()
 

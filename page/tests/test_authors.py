@@ -462,7 +462,7 @@ def test_sizes_of_recordings(page, same, folder):
             path = os.path.join(folder, f"of_{lines}_{kind.replace(' ', '_')}.calls")
             with open(path, "w", encoding="ascii") as file:
                 file.write(text)
-            page.open("calls=plain")
+            page.open("calls=plain", emptied=True)
             began = time.time()
             give(page, path)
             opened = time.time() - began

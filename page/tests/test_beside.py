@@ -6,7 +6,8 @@ import urllib.parse
 from browser import slack
 from test_authors import LOST, MOST_MB, STEPPED, STEPS, STEP_KEYS, audited, lossy, megabytes, place, press, shown, until_words
 from test_calls import flags, give
-from test_sizes import KEPT_NAMES, PHONE, printed
+from test_paper import printed
+from test_sizes import KEPT_NAMES, PHONE
 from test_use import media, resize, seen, words
 
 OTHER = LOST.replace("C item 3", "C item 2").replace("C empty", "C item 3")  # which loses none
@@ -132,7 +133,7 @@ def test_million_beside(page, same, folder):
     text = lossy(1000000)
     with open(path, "w", encoding="ascii") as file:
         file.write(text)
-    page.open("calls=plain")
+    page.open("calls=plain", emptied=True)
     give(page, path)
     page.click("compare")
     page.browser.run("location.hash = 'calls=empty_while_inside'")

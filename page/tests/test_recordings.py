@@ -176,7 +176,7 @@ def test_refused(page, same, folder):
 def test_long_texts(page, same, folder):
     """The page stays responsive: a recording of 50 MB, one of 4.2 million lines, and a script of 900,000 items are read by a worker, with a
     message, and can be stopped."""
-    page.open("calls=plain")
+    page.open("calls=plain", emptied=True)
     bound = FROZEN * slack()
     big = "queue 64\n" + "".join(f"P put {10**18 + at}\nP stored\nC take\nC item {10**18 + at}\n" for at in range(740000))
     script = (
