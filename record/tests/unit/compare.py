@@ -76,6 +76,8 @@ class Recording:
         """Whether stderr reports it correctly: the words, the line at fault, and the lines around it, as they are in the recording."""
         if self.is_lawful:
             return not told
+        if not told.startswith(f"{self.words}\n"):
+            return False
         words, *lines = told.splitlines()
         at = int(re.search(r"line (\d+)", words)[1])
         shown = {int(line[1:9]): line for line in lines if line != "        .."}
@@ -83,8 +85,7 @@ class Recording:
         marked = {number for number, line in shown.items() if line[0] == ">"}
         round_it = set(range(max(at - 6, 1), min(at + 2, len(self.lines)) + 1))
         return (
-            words == self.words
-            and all(line[9:] == f" {self.lines[number - 1]}" for number, line in shown.items())
+            all(line[9:] == f" {self.lines[number - 1]}" for number, line in shown.items())
             and list(shown) == sorted(round_it | marked)
             and {at} <= marked <= named
             and len(marked) <= 2
