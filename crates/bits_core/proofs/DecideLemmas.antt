@@ -1,39 +1,27 @@
 -- Whether a write of a bit overlaps an access: decided by a search over the places.
-use Rattle.std.proofs.Common.{◌≡◌, ◌⊎◌, ℕ, zero, suc, ◌<◌, Bool, true, false, Some, None, List, length, inl, inr, refl, ap, sym, subst, ◌∙◌, arith}
+use Rattle.std.proofs.Common.{◌≡◌, ◌⊎◌, ℕ, zero, suc, ◌<◌, Bool, true, false, Some, None, List, length, inl, inr, refl, sym, subst, ◌∙◌, arith}
 use Rattle.std.specs.Prelude.{slice_get}
 use Rattle.std.proofs.lemmas.Bool.{cases_lt, false≢true}
 use Rattle.std.proofs.lemmas.Option.{none-some, same_Some, slice_get_within}
 use Rattle.bits_core.specs.declared.events.Bit.{Bit}
 use Rattle.bits_core.specs.declared.events.Event.{Event}
-use Rattle.bits_core.specs.Bits.{writer, is_by, same_side, begun_by, write_of}
+use Rattle.bits_core.specs.Bits.{writer, is_by, begun_by, write_of}
 use Rattle.bits_core.specs.Intervals.{end_of, IsWrite, Overlap, HasOverlap}
 use Rattle.bits_core.proofs.Changes.{same_side-same}
 use Rattle.bits_core.proofs.IntervalLemmas.{same_side-true, value_written-from, value_written-to}
 
 decide_intervals : (start stop start' stop' : ℕ) → Overlap start stop start' stop' ⊎ ¬ Overlap start stop start' stop'
-decide_intervals start stop start' stop' =
-    elim (cases_lt stop start') [
-      | inl before ↦ inr (λ o. o.0 before)
-      | inr other ↦ elim (cases_lt stop' start) [
-        | inl after ↦ inr (λ o. o.1 after)
-        | inr both ↦ inl (λ l. omega arith, λ l. omega arith)
-      ]
-    ]
+decide_intervals start stop start' stop' = grind (arith, cases_lt)
 
 -- a write of the bit begins at a place
 abbrev BeginsWrite : List Event → Bit → ℕ → Type 0
 BeginsWrite h b p = (v : Bool) × IsWrite h b v p (end_of (writer b) h p)
 
 no_write_by : (h : List Event) (b : Bit) (p : ℕ) (e : Event) → slice_get h p ≡ Some e → is_by (writer b) e ≡ false → ¬ BeginsWrite h b p
-no_write_by h b p e at other w =
-    let same : w.1.event ≡ e = same_Some w.1.event e (sym w.1.at_start ∙ at) in
-    let by : is_by (writer b) e ≡ true = ap (is_by (writer b)) (sym same) ∙ ap (same_side (writer b)) w.1.by_side ∙ same_side-same (writer b) in
-    false≢true (sym other ∙ by)
+no_write_by h b p e at other w = grind (arith, same_Some, same_side-same, false≢true)
 
 no_write_of : (h : List Event) (b : Bit) (p : ℕ) (e : Event) → slice_get h p ≡ Some e → write_of b e ≡ None → ¬ BeginsWrite h b p
-no_write_of h b p e at none w =
-    let same : w.1.event ≡ e = same_Some w.1.event e (sym w.1.at_start ∙ at) in
-    none-some w.0 (sym none ∙ ap (write_of b) (sym same) ∙ value_written-to b (begun_by w.1.event) w.0 w.1.begins)
+no_write_of h b p e at none w = grind (arith, same_Some, none-some, value_written-to)
 
 decide_write : (h : List Event) (b : Bit) (p : ℕ) → BeginsWrite h b p ⊎ ¬ BeginsWrite h b p
 decide_write h b p =
@@ -53,14 +41,7 @@ abbrev OverlapsAt : List Event → Bit → ℕ → ℕ → ℕ → Type 0
 OverlapsAt h b start stop p = BeginsWrite h b p × Overlap start stop p (end_of (writer b) h p)
 
 decide_at : (h : List Event) (b : Bit) (start stop p : ℕ) → OverlapsAt h b start stop p ⊎ ¬ OverlapsAt h b start stop p
-decide_at h b start stop p =
-    elim (decide_write h b p) [
-      | inr none ↦ inr (λ o. none o.0)
-      | inl write ↦ elim (decide_intervals start stop p (end_of (writer b) h p)) [
-        | inr apart ↦ inr (λ o. apart o.1)
-        | inl overlap ↦ inl (write, overlap)
-      ]
-    ]
+decide_at h b start stop p = grind (arith, decide_write h b p, decide_intervals start stop p (end_of (writer b) h p))
 
 -- among the first n places
 search_places : (h : List Event) (b : Bit) (start stop n : ℕ) → ((p : ℕ) × OverlapsAt h b start stop p) ⊎ ((p : ℕ) → p < n → ¬ OverlapsAt h b start stop p)

@@ -1,5 +1,5 @@
 -- What an audit finds.
-use Rattle.std.proofs.Common.{◌≡◌, ℕ, suc, Option, None, Some, IfSome, List, ◌<◌, ◌≤◌, sym, length, take, refl, ap₂, subst, inl, inr, arith, get_or}
+use Rattle.std.proofs.Common.{◌≡◌, ℕ, suc, Option, None, Some, IfSome, List, ◌<◌, ◌≤◌, sym, length, take, refl, subst, inl, inr, arith, get_or}
 use Rattle.std.proofs.lemmas.Bool.{cases_order}
 use Rattle.std.specs.Prelude.{slice_get}
 use Rattle.std.proofs.lemmas.Option.{slice_get-get_or, slice_get_within}
@@ -7,15 +7,15 @@ use Rattle.std.proofs.lemmas.List.{take-take}
 use Rattle.bits_core.specs.declared.events.Event.{Event}
 use Rattle.bits_core.specs.declared.shapes.Shape.{Shape}
 use Rattle.bits_core.specs.declared.faults.Kind.{Kind}
-use Rattle.bits_core.specs.declared.faults.Kind.TheVariants.{WrongSide, OutOfTurn, NotPermitted, NotProgram}
 use Rattle.bits_core.specs.declared.audits.Verdict.{Verdict}
 use Rattle.bits_core.specs.declared.audits.Verdict.TheVariants.{Lawful, Fault}
 use Rattle.bits_core.specs.declared.reasons.Reason.{Reason}
 use Rattle.bits_core.specs.Audit.{IsFault, IsFirstFault, IsFaultAfter, IsVerdict}
 use Rattle.bits_core.specs.Reasons.{IsReasonBehind, HasReason}
-use Rattle.bits_core.specs.Steps.{MayFollow, EachMayFollow}
-use Rattle.bits_core.specs.Lawful.{TakesTurn, IsLawfulEvent, IsLawful}
+use Rattle.bits_core.specs.Steps.{MayFollow}
+use Rattle.bits_core.specs.Lawful.{IsLawfulEvent, IsLawful}
 use Rattle.bits_core.specs.Laws.{FaultBreaks}
+use Rattle.bits_core.proofs.StepLemmas.{EachMayFollow}
 use Rattle.bits_core.proofs.Statements.{FaultIsFirst}
 use Rattle.bits_core.proofs.Places.{slice_get-take, slice_get-from_take}
 use Rattle.bits_core.proofs.OverlapLemmas.{IsByDoers, IsByDoers-below}
@@ -23,18 +23,10 @@ use Rattle.bits_core.proofs.LawfulLemmas.{same_event, IsByDoers-steps, IsLawfulE
 
 -- the two forms of a fault
 pub IsFault-from : (shape : Shape) (h : List Event) (place : ℕ) (e : Event) (kind : Kind) → IsByDoers h place → slice_get h place ≡ Some e → IsFaultAfter shape (take place h) e kind → IsFault shape h place e kind
-IsFault-from shape h place e WrongSide sides at fault = fault
-IsFault-from shape h place e OutOfTurn sides at fault = (fault.0, λ turn. fault.1 (TakesTurn-to h place sides e.side e.bit e.act at turn))
-IsFault-from shape h place e NotPermitted sides at fault =
-    let turn : TakesTurn h place e.side e.bit e.act = TakesTurn-from h place sides e.side e.bit e.act at fault.1 in
-    (fault.0, turn, λ safe. fault.2 (AnswersSafely-to h place sides e.side e.bit e.act at turn safe))
-IsFault-from shape h place e NotProgram sides at fault = fault
+IsFault-from shape h place e kind sides at fault = grind (arith, TakesTurn-to, TakesTurn-from, AnswersSafely-to)
 
 not_IsLawfulEvent : (shape : Shape) (h : List Event) (place : ℕ) (e : Event) (kind : Kind) → IsFault shape h place e kind → ¬ IsLawfulEvent shape h place e
-not_IsLawfulEvent shape h place e WrongSide fault f = fault f.right_side
-not_IsLawfulEvent shape h place e OutOfTurn fault f = fault.1 f.in_turn
-not_IsLawfulEvent shape h place e NotPermitted fault f = fault.2 f.permitted
-not_IsLawfulEvent shape h place e NotProgram fault f = fault
+not_IsLawfulEvent shape h place e kind fault f = grind arith
 
 pub not_IsLawful : (shape : Shape) (h : List Event) (place : ℕ) (kind : Kind) → IsFirstFault shape h place kind → ¬ IsLawful shape h
 not_IsLawful shape h place kind fault lawful = not_IsLawfulEvent shape h place fault.event kind fault.fault (lawful.each place fault.event fault.at_place)
@@ -62,36 +54,21 @@ fault_is_first shape h place e kind at lawful fault =
 -- ---- one verdict
 
 one_kind : (shape : Shape) (h : List Event) (place : ℕ) (e : Event) (k l : Kind) → IsFault shape h place e k → IsFault shape h place e l → k ≡ l
-one_kind shape h place e WrongSide WrongSide a b = refl
-one_kind shape h place e WrongSide OutOfTurn a b = absurd (a b.0)
-one_kind shape h place e WrongSide NotPermitted a b = absurd (a b.0)
-one_kind shape h place e WrongSide NotProgram a b = absurd b
-one_kind shape h place e OutOfTurn WrongSide a b = absurd (b a.0)
-one_kind shape h place e OutOfTurn OutOfTurn a b = refl
-one_kind shape h place e OutOfTurn NotPermitted a b = absurd (a.1 b.1)
-one_kind shape h place e OutOfTurn NotProgram a b = absurd b
-one_kind shape h place e NotPermitted WrongSide a b = absurd (b a.0)
-one_kind shape h place e NotPermitted OutOfTurn a b = absurd (b.1 a.1)
-one_kind shape h place e NotPermitted NotPermitted a b = refl
-one_kind shape h place e NotPermitted NotProgram a b = absurd b
-one_kind shape h place e NotProgram l a b = absurd a
+one_kind shape h place e k l a b = grind arith
 
 -- no event before the first fault is at fault
 not_before : (shape : Shape) (h : List Event) (p q : ℕ) (k l : Kind) → IsFirstFault shape h p k → IsFirstFault shape h q l → ¬ (p < q)
 not_before shape h p q k l a b below = not_IsLawfulEvent shape h p a.event k a.fault (b.least p a.event below a.at_place)
 
 pub one_verdict : (shape : Shape) (h : List Event) (v w : Verdict) → IsVerdict shape h v → IsVerdict shape h w → v ≡ w
-one_verdict shape h Lawful Lawful a b = refl
-one_verdict shape h Lawful (Fault q l) a b = absurd (not_IsLawful shape h q l b a)
+one_verdict shape h Lawful w a b = grind (arith, not_IsLawful)
 one_verdict shape h (Fault p k) Lawful a b = absurd (not_IsLawful shape h p k a b)
 one_verdict shape h (Fault p k) (Fault q l) a b =
     let place : p ≡ q = elim (cases_order p q) [
       | inl same ↦ same
       | inr other ↦ elim other [ inl below ↦ absurd (not_before shape h p q k l a b below) | inr above ↦ absurd (not_before shape h q p l k b a above) ]
     ] in
-    let event : b.event ≡ a.event = same_event h q b.event a.event b.at_place (subst (λ n. slice_get h n ≡ Some a.event) place a.at_place) in
-    let moved : IsFault shape h q a.event k = subst (λ n. IsFault shape h n a.event k) place a.fault in
-    ap₂ Fault place (one_kind shape h q a.event k l moved (subst (λ e. IsFault shape h q e l) event b.fault))
+    grind (arith, same_event, one_kind)
 
 -- ---- up to a fault, and with it
 
@@ -119,10 +96,7 @@ fault_breaks shape h place kind fault =
 -- ---- why an event may not follow
 
 not_MayFollow : (shape : Shape) (past : List Event) (e : Event) (kind : Kind) → IsFaultAfter shape past e kind → ¬ MayFollow shape past e
-not_MayFollow shape past e WrongSide fault follows = fault follows.right_side
-not_MayFollow shape past e OutOfTurn fault follows = fault.1 follows.in_turn
-not_MayFollow shape past e NotPermitted fault follows = fault.2 follows.permitted
-not_MayFollow shape past e NotProgram fault follows = fault
+not_MayFollow shape past e kind fault follows = grind arith
 
 -- if a reason is absent only for an event that may follow, it says why the one at fault may not
 pub HasReason-at : (shape : Shape) (h : List Event) (place : ℕ) (d : Event) (kind : Kind) (why : Option Reason) → place < length h → IsFaultAfter shape (take place h) (get_or h place d) kind →

@@ -1,7 +1,6 @@
 -- How many reads that a write overlapped have ended, and what a memory keeps.
-use Rattle.std.proofs.Common.{◌≡◌, ℕ, zero, suc, ◌+◌, ◌<◌, ◌≤◌, Bool, true, false, Option, Some, List, [], ◌∷◌, ◌++◌, length, refl, ap, ap₂, sym, subst, ◌∙◌, add-zero, length-append, arith}
-use Rattle.std.specs.Prelude.{◌&&◌, slice_get, if◌then◌else◌}
-use Rattle.std.specs.Option.{option_map_or}
+use Rattle.std.proofs.Common.{◌≡◌, ℕ, zero, suc, ◌+◌, ◌<◌, ◌≤◌, Bool, false, Some, List, ◌∷◌, ◌++◌, length, refl, ap₂, sym, subst, add-zero, length-append, arith, []}
+use Rattle.std.specs.Prelude.{slice_get, if◌then◌else◌}
 use Rattle.std.proofs.lemmas.List.{take-append-le, take_at}
 use Rattle.bits_core.specs.declared.events.Side.{Side}
 use Rattle.bits_core.specs.declared.events.Bit.{Bit}
@@ -10,11 +9,9 @@ use Rattle.bits_core.specs.declared.events.Access.TheVariants.{Read}
 use Rattle.bits_core.specs.declared.events.Event.{Event}
 use Rattle.bits_core.specs.declared.shapes.Shape.{Shape}
 use Rattle.bits_core.specs.Memory.{IsRecord, count_below, ends_read, flicker_count, is_flicker, is_flicker_at}
-use Rattle.bits_core.specs.Bits.{reader}
-use Rattle.bits_core.specs.Shape.{belongs}
 use Rattle.bits_core.specs.History.{open_access, is_overlapped, held_at_begin}
 use Rattle.bits_core.specs.Lawful.{IsLawful}
-use Rattle.bits_core.specs.Steps.{IsAnswer, MayFollow}
+use Rattle.bits_core.specs.Steps.{MayFollow}
 use Rattle.bits_core.proofs.LawProofs.{lawful_by_one_more}
 use Rattle.bits_core.proofs.OpenAccesses.{IsAnswer-from, open_right}
 use Rattle.bits_core.proofs.Places.{slice_get-last}
@@ -26,9 +23,7 @@ count_below-same (suc n) f g same =
 
 pub count_below-le : (n : ℕ) (f : ℕ → Bool) → count_below n f ≤ n
 count_below-le zero f = omega arith
-count_below-le (suc n) f =
-    let before : count_below n f ≤ n = count_below-le n f in
-    elim (f n) as (λ t. count_below n f + (if t then 1 else 0) ≤ suc n) [ true ↦ omega arith | false ↦ omega arith ]
+count_below-le (suc n) f = grind (arith, count_below-le n f)
 
 -- one more event at the end changes no place before it
 pub slice_get-front : (h : List Event) (e : Event) (p : ℕ) → p < length h → slice_get (h ++ e ∷ []) p ≡ slice_get h p
@@ -37,42 +32,27 @@ slice_get-front (x ∷ h) e zero below = refl
 slice_get-front (x ∷ h) e (suc p) below = slice_get-front h e p (omega arith)
 
 pub is_flicker_at-front : (h : List Event) (e : Event) (p : ℕ) → p < length h → is_flicker_at (h ++ e ∷ []) p ≡ is_flicker_at h p
-is_flicker_at-front h e p below =
-    let within : p ≤ length h = omega arith in
-    ap₂ (λ (past : List Event) (o : Option Event). option_map_or (is_flicker past) o false) (take-append-le p h (e ∷ []) within) (slice_get-front h e p below)
+is_flicker_at-front h e p below = grind (arith, take-append-le, slice_get-front)
 
 pub is_flicker_at-last : (h : List Event) (e : Event) → is_flicker_at (h ++ e ∷ []) (length h) ≡ is_flicker h e
-is_flicker_at-last h e =
-    ap₂ (λ (past : List Event) (o : Option Event). option_map_or (is_flicker past) o false) (take_at h (e ∷ []) (length h) refl) (slice_get-last h e)
+is_flicker_at-last h e = grind (arith, take_at, slice_get-last)
 
 pub flicker_count-push : (h : List Event) (e : Event) → flicker_count (h ++ e ∷ []) ≡ flicker_count h + (if is_flicker h e then 1 else 0)
-flicker_count-push h e =
-    let longer : length (h ++ e ∷ []) ≡ suc (length h) = omega (arith, length-append h (e ∷ [])) in
-    ap (λ (n : ℕ). count_below n (is_flicker_at (h ++ e ∷ []))) longer
-    ∙ ap₂ (λ (c : ℕ) (b : Bool). c + (if b then 1 else 0)) (count_below-same (length h) (is_flicker_at (h ++ e ∷ [])) (is_flicker_at h) (is_flicker_at-front h e)) (is_flicker_at-last h e)
+flicker_count-push h e = grind (arith, length-append, count_below-same, is_flicker_at-front, is_flicker_at-last)
 
 -- ---- what a memory keeps
 
 pub IsRecord-push : (shape : Shape) (h : List Event) (n : ℕ) (e : Event) → IsRecord shape h n → MayFollow shape h e → IsRecord shape (h ++ e ∷ []) (n + (if is_flicker h e then 1 else 0))
-IsRecord-push shape h n e kept follows = record {
-  lawful = (lawful_by_one_more shape h e).1 (kept.lawful, follows);
-  counted = ap (λ (c : ℕ). c + (if is_flicker h e then 1 else 0)) kept.counted ∙ sym (flicker_count-push h e);
-}
+IsRecord-push shape h n e kept follows = grind (arith, lawful_by_one_more, flicker_count-push)
 
 -- an event that ends no read leaves the number unchanged
 pub IsRecord-quiet : (shape : Shape) (h : List Event) (n : ℕ) (e : Event) → IsRecord shape h n → MayFollow shape h e → ends_read e.act ≡ false → IsRecord shape (h ++ e ∷ []) n
-IsRecord-quiet shape h n e kept follows quiet =
-    let none : is_flicker h e ≡ false = ap (λ (t : Bool). t && is_overlapped e.side e.bit h) quiet in
-    let same : n + (if is_flicker h e then 1 else 0) ≡ n = ap (λ (t : Bool). n + (if t then 1 else 0)) none ∙ add-zero n in
-    subst (λ (k : ℕ). IsRecord shape (h ++ e ∷ []) k) same (IsRecord-push shape h n e kept follows)
+IsRecord-quiet shape h n e kept follows quiet = grind (arith, add-zero n, IsRecord-push shape h n e kept follows)
 
 -- the end of a read may follow with the answer that it gets
 pub MayFollow-answer : (shape : Shape) (h : List Event) (s : Side) (b : Bit) (asked v : Bool) → IsLawful shape h → open_access s h ≡ Some (Read b)
     → v ≡ (if is_overlapped s b h then asked else held_at_begin s b h) → MayFollow shape h (record { side = s; bit = b; act = ReadEnd v })
-MayFollow-answer shape h s b asked v lawful still answer =
-    let right : (belongs shape b ≡ true) × (s ≡ reader b) = open_right shape h s (Read b) lawful still in
-    let permitted : IsAnswer h s b v = IsAnswer-from h s b asked v answer in
-    record { right_side = record { in_shape = right.0; by_doer = right.1 }; in_turn = still; permitted = permitted }
+MayFollow-answer shape h s b asked v lawful still answer = grind (arith, open_right shape h s (Read b) lawful still, IsAnswer-from h s b asked v answer)
 
 pub flickers-le : (shape : Shape) (h : List Event) (n : ℕ) → IsRecord shape h n → n ≤ length h
 flickers-le shape h n kept = subst (λ (k : ℕ). k ≤ length h) (sym kept.counted) (count_below-le (length h) (is_flicker_at h))

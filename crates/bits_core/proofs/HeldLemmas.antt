@@ -1,6 +1,6 @@
 -- What a bit holds, by places and by the events before a place.
-use Rattle.std.proofs.Common.{◌≡◌, ℕ, zero, suc, Bool, true, false, not, ◌⊎◌, inl, inr, Some, None, List, [], ◌∷◌, ◌+◌, ◌-◌, ◌<◌, ◌≤◌, length, take, drop, refl, ap, sym, subst, ◌∙◌, arith}
-use Rattle.std.specs.Prelude.{slice_get, option_and_then}
+use Rattle.std.proofs.Common.{◌≡◌, ℕ, zero, suc, Bool, true, false, not, ◌⊎◌, inl, inr, Some, None, List, ◌∷◌, ◌+◌, ◌-◌, ◌<◌, ◌≤◌, length, take, drop, refl, ap, sym, subst, ◌∙◌, arith, []}
+use Rattle.std.specs.Prelude.{slice_get}
 use Rattle.std.specs.List.{cons_option}
 use Rattle.std.proofs.lemmas.Bool.{false≢true, cases_lt, cases_order}
 use Rattle.std.proofs.lemmas.List.{take-take}
@@ -133,10 +133,7 @@ pub IsHeld-same : (h : List Event) (b : Bit) (place : ℕ) (v w : Bool) → IsHe
 IsHeld-same h b place v w (inl x) (inl y) =
     let le : x.start ≤ y.start = y.last v x.start x.stop x.write x.ended in
     let ge : y.start ≤ x.start = x.last w y.start y.stop y.write y.ended in
-    let same : x.start ≡ y.start = omega arith in
-    let events : Some x.write.event ≡ Some y.write.event = sym x.write.at_start ∙ ap (slice_get h) same ∙ y.write.at_start in
-    let writes : Some (Write b v) ≡ Some (Write b w) = sym x.write.begins ∙ ap (option_and_then begun_by) events ∙ y.write.begins in
-    cc
+    grind arith
 IsHeld-same h b place v w (inl x) (inr y) = absurd (y.0 v x.start x.stop x.write x.ended)
 IsHeld-same h b place v w (inr x) (inl y) = absurd (x.0 w y.start y.stop y.write y.ended)
 IsHeld-same h b place v w (inr x) (inr y) = x.1 ∙ sym y.1

@@ -1,27 +1,16 @@
 -- How each function of histories changes with one more event at the end.
-use Rattle.std.proofs.Common.{◌≡◌, ℕ, Bool, true, false, ◌||◌, cond, Option, Some, None, List, [], ◌∷◌, ◌++◌, ◌+◌, ◌-◌, length, take, drop, length-drop, refl, ap, sym, ◌∙◌}
-use Rattle.std.specs.Prelude.{option_and_then, is_some, if◌then◌else◌, slice_get}
+use Rattle.std.proofs.Common.{◌≡◌, ℕ, Bool, true, false, ◌||◌, Option, Some, None, List, ◌∷◌, ◌++◌, ◌+◌, take, drop, refl, ap, ◌∙◌, arith, []}
+use Rattle.std.specs.Prelude.{is_some, if◌then◌else◌, slice_get}
 use Rattle.std.proofs.lemmas.Option.{slice_get_within, get_or_from_slice_get}
 use Rattle.std.proofs.lemmas.List.{take-append-drop, drop_more}
-use Rattle.std.proofs.Math.Seq.{take-length}
 use Rattle.std.proofs.lemmas.Bool.{or_parts, false≢true}
 use Rattle.std.specs.Option.{option_to_list}
-use Rattle.std.specs.List.{cons_option}
 use Rattle.std.proofs.lemmas.List.Elements.{filter_map-append}
 use Rattle.bits_core.specs.declared.events.Side.{Side}
 use Rattle.bits_core.specs.declared.events.Bit.{Bit}
 use Rattle.bits_core.specs.declared.events.Event.{Event}
 use Rattle.bits_core.specs.Bits.{writer, is_by, begun_by, write_of}
 use Rattle.bits_core.specs.History.{has_event, last_event, before_last, after_last, open_access, writes_begun, writes_ended, last_value, IsLastPlace}
-
--- a side has an event in two lists together if it has one in either
-pub has_event-append : (s : Side) (xs ys : List Event) → has_event s (xs ++ ys) ≡ (has_event s xs || has_event s ys)
-has_event-append s [] ys = refl
-has_event-append s (x ∷ xs) ys =
-    elim (is_by s x) as (λ v. (v || has_event s (xs ++ ys)) ≡ ((v || has_event s xs) || has_event s ys)) [
-      | true ↦ refl
-      | false ↦ has_event-append s xs ys
-    ]
 
 pub has_event-at : (s : Side) (xs : List Event) (e : Event) (ys : List Event) → is_by s e ≡ true → has_event s (xs ++ e ∷ ys) ≡ true
 has_event-at s [] e ys by = rw by refl
@@ -59,11 +48,7 @@ before_last-not s (x ∷ h) e by = rw (has_event-not s h e by, before_last-not s
 
 pub after_last-not : (s : Side) (h : List Event) (e : Event) → is_by s e ≡ false → after_last s (h ++ e ∷ []) ≡ after_last s h ++ e ∷ []
 after_last-not s [] e by = rw by refl
-after_last-not s (x ∷ h) e by = rw (has_event-not s h e by, after_last-not s h e by)
-    (elim (has_event s h) as (λ v. cond v (after_last s h ++ e ∷ []) (cond (is_by s x) (h ++ e ∷ []) (x ∷ (h ++ e ∷ []))) ≡ cond v (after_last s h) (cond (is_by s x) h (x ∷ h)) ++ e ∷ []) [
-      | true ↦ refl
-      | false ↦ elim (is_by s x) as (λ w. cond w (h ++ e ∷ []) (x ∷ (h ++ e ∷ [])) ≡ cond w h (x ∷ h) ++ e ∷ []) [ true ↦ refl | false ↦ refl ]
-    ])
+after_last-not s (x ∷ h) e by = grind (arith, has_event-not, after_last-not s h e by)
 
 pub last_event-not : (s : Side) (h : List Event) (e : Event) → is_by s e ≡ false → last_event s (h ++ e ∷ []) ≡ last_event s h
 last_event-not s [] e by = rw by refl
@@ -71,44 +56,28 @@ last_event-not s (x ∷ h) e by = rw (has_event-not s h e by, last_event-not s h
 
 -- the same with one more event at the end
 pub before_last-push : (s : Side) (h : List Event) (e : Event) → before_last s (h ++ e ∷ []) ≡ (if is_by s e then h else before_last s h)
-before_last-push s h e =
-    elim (is_by s e) as (λ v. is_by s e ≡ v → before_last s (h ++ e ∷ []) ≡ cond v h (before_last s h)) [
-      | true ↦ λ by. before_last-at s h e [] by refl
-      | false ↦ λ by. before_last-not s h e by
-    ] refl
+before_last-push s h e = grind (arith, before_last-at, before_last-not)
 
 pub after_last-push : (s : Side) (h : List Event) (e : Event) → after_last s (h ++ e ∷ []) ≡ (if is_by s e then [] else after_last s h ++ e ∷ [])
-after_last-push s h e =
-    elim (is_by s e) as (λ v. is_by s e ≡ v → after_last s (h ++ e ∷ []) ≡ cond v [] (after_last s h ++ e ∷ [])) [
-      | true ↦ λ by. after_last-at s h e [] by refl
-      | false ↦ λ by. after_last-not s h e by
-    ] refl
+after_last-push s h e = grind (arith, after_last-at, after_last-not)
 
 pub last_event-push : (s : Side) (h : List Event) (e : Event) → last_event s (h ++ e ∷ []) ≡ (if is_by s e then Some e else last_event s h)
-last_event-push s h e =
-    elim (is_by s e) as (λ v. is_by s e ≡ v → last_event s (h ++ e ∷ []) ≡ cond v (Some e) (last_event s h)) [
-      | true ↦ λ by. last_event-at s h e [] by refl
-      | false ↦ λ by. last_event-not s h e by
-    ] refl
+last_event-push s h e = grind (arith, last_event-at, last_event-not)
 
 -- the open access of a side
 pub open_access-push : (s : Side) (h : List Event) (e : Event) → open_access s (h ++ e ∷ []) ≡ (if is_by s e then begun_by e else open_access s h)
-open_access-push s h e = rw (last_event-push s h e)
-    (elim (is_by s e) as (λ v. option_and_then begun_by (cond v (Some e) (last_event s h)) ≡ cond v (begun_by e) (option_and_then begun_by (last_event s h))) [ true ↦ refl | false ↦ refl ])
+open_access-push s h e = grind (arith, last_event-push)
 
 -- the writes of a bit
 pub writes_begun-push : (b : Bit) (h : List Event) (e : Event) → writes_begun b (h ++ e ∷ []) ≡ writes_begun b h ++ option_to_list (write_of b e)
-writes_begun-push b h e = filter_map-append (write_of b) h (e ∷ []) ∙
-    elim (write_of b e) as (λ o. writes_begun b h ++ cons_option o [] ≡ writes_begun b h ++ option_to_list o) [ None ↦ refl | Some v ↦ refl ]
+writes_begun-push b h e = grind (arith, filter_map-append)
 
 pub writes_ended-push : (b : Bit) (h : List Event) (e : Event) → writes_ended b (h ++ e ∷ []) ≡ (if is_by (writer b) e then writes_begun b h else writes_ended b h)
-writes_ended-push b h e = rw (before_last-push (writer b) h e)
-    (elim (is_by (writer b) e) as (λ v. writes_begun b (cond v h (before_last (writer b) h)) ≡ cond v (writes_begun b h) (writes_ended b h)) [ true ↦ refl | false ↦ refl ])
+writes_ended-push b h e = grind (arith, before_last-push)
 
 -- a list is the events before a place, the event there, and those after it
 pub split_at : (h : List Event) (p : ℕ) (e : Event) → slice_get h p ≡ Some e → h ≡ take p h ++ e ∷ drop (p + 1) h
-split_at h p e at =
-    sym (take-append-drop p h) ∙ ap (λ t. take p h ++ t) (drop_more h p e (slice_get_within h p e at) ∙ ap (λ x. x ∷ drop (p + 1) h) (get_or_from_slice_get h p e e at))
+split_at h p e at = grind (arith, take-append-drop p h, drop_more h p e (slice_get_within h p e at), slice_get_within h p e, get_or_from_slice_get h p e e)
 
 module _ (s : Side) (h : List Event) (p : ℕ) (last : IsLastPlace s h p) where
   pub before_last-place : before_last s h ≡ take p h
@@ -135,9 +104,4 @@ last_value-push v [] w = refl
 last_value-push v (x ∷ ws) w = last_value-push x ws w
 
 pub some_when : {A : Type 0} (o : Option A) → is_some o ≡ true → (x : A) × (o ≡ Some x)
-some_when None h = absurd (false≢true h)
-some_when (Some x) h = (x, refl)
-
--- what `&h[n..]` is
-pub take_rest : {A : Type 0} (h : List A) (n : ℕ) → take (length h - n) (drop n h) ≡ drop n h
-take_rest h n = rw (← length-drop n h) (take-length (drop n h))
+some_when o h = grind (arith, false≢true)

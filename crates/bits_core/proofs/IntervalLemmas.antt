@@ -1,18 +1,15 @@
 -- Accesses by their places, and by the events before a place.
-use Rattle.std.proofs.Common.{◌≡◌, ℕ, zero, suc, Bool, true, false, ◌||◌, not, inl, inr, Option, Some, None, List, [], ◌∷◌, ◌+◌, ◌-◌, ◌<◌, ◌≤◌, length, take, drop, refl, ap, sym, subst, ◌∙◌, arith, length-drop}
-use Rattle.std.specs.Prelude.{slice_get, option_and_then, if◌then◌else◌, ◌==◌}
+use Rattle.std.proofs.Common.{◌≡◌, ℕ, zero, suc, Bool, true, false, ◌||◌, not, Option, Some, None, List, ◌∷◌, ◌+◌, ◌-◌, ◌<◌, ◌≤◌, length, take, drop, refl, ap, sym, subst, ◌∙◌, arith, length-drop, []}
+use Rattle.std.specs.Prelude.{slice_get, option_and_then, if◌then◌else◌}
 use Rattle.std.specs.List.{cons_option}
 use Rattle.std.proofs.lemmas.Bool.{or_cases, or_parts, false≢true, eq-eqb, and_from, or_left, or_right}
 use Rattle.std.proofs.lemmas.List.{drop-take}
 use Rattle.bits_core.specs.declared.events.Side.{Side}
-use Rattle.bits_core.specs.declared.events.Side.TheVariants.{P, C}
 use Rattle.bits_core.specs.declared.events.Bit.{Bit}
-use Rattle.bits_core.specs.declared.events.Bit.TheVariants.{S, R, X, Cell}
 use Rattle.bits_core.specs.declared.events.Act.{Act}
-use Rattle.bits_core.specs.declared.events.Act.TheVariants.{ReadBegin, ReadEnd, WriteBegin, WriteEnd}
 use Rattle.bits_core.specs.declared.events.Event.{Event}
 use Rattle.bits_core.specs.declared.events.Access.{Access}
-use Rattle.bits_core.specs.declared.events.Access.TheVariants.{Read, Write}
+use Rattle.bits_core.specs.declared.events.Access.TheVariants.{Write}
 use Rattle.bits_core.specs.Bits.{writer, is_by, same_side, same_bit, doer, begun_by, begun_access, value_written, write_of}
 use Rattle.bits_core.specs.History.{has_event, open_access, writes_begun, is_empty, IsLastPlace}
 use Rattle.bits_core.specs.Intervals.{first_place, end_of, IsAccess, IsOpenAt}
@@ -25,9 +22,7 @@ pub first_place-none : (s : Side) (xs : List Event) (n : ℕ) → has_event s (t
 first_place-none s xs zero none within = omega arith
 first_place-none s [] (suc n) none within = absurd (omega arith)
 first_place-none s (x ∷ xs) (suc n) none within =
-    let q = or_parts (is_by s x) (has_event s (take n xs)) none in
-    let ih : n ≤ first_place s xs = first_place-none s xs n q.1 (omega arith) in
-    rw q.0 (omega arith)
+    grind (arith, or_parts, first_place-none s xs n (or_parts (is_by s x) (has_event s (take n xs)) none).1 (omega arith))
 
 pub none-first_place : (s : Side) (xs : List Event) (n : ℕ) → n ≤ first_place s xs → has_event s (take n xs) ≡ false
 none-first_place s xs zero le = refl
@@ -39,26 +34,15 @@ none-first_place s (x ∷ xs) (suc n) le =
     ] le
 
 pub same_side-true : (a b : Side) → same_side a b ≡ true → b ≡ a
-same_side-true P P e = refl
-same_side-true P C e = cc
-same_side-true C P e = cc
-same_side-true C C e = refl
+same_side-true a b e = grind arith
 
 -- an access ends at a place or later if its side has no event in between
 pub none_between : (s : Side) (h : List Event) (start place : ℕ) → start < place → place ≤ length h → has_event s (drop (start + 1) (take place h)) ≡ false → place ≤ end_of s h start
-none_between s h start place below within none =
-    let m : ℕ = place - (start + 1) in
-    let sum : start + 1 + m ≡ place = omega arith in
-    let part : drop (start + 1) (take place h) ≡ take m (drop (start + 1) h) = ap (λ n. drop (start + 1) (take n h)) (sym sum) ∙ drop-take (start + 1) m h in
-    let first : m ≤ first_place s (drop (start + 1) h) = first_place-none s (drop (start + 1) h) m (sym (ap (has_event s) part) ∙ none) (omega (arith, length-drop (start + 1) h)) in
-    omega arith
+none_between s h start place below within none = grind (arith, first_place-none, drop-take (start + 1) (place - (start + 1)) h, length-drop (start + 1) h)
 
 pub between_none : (s : Side) (h : List Event) (start place : ℕ) → start < place → place ≤ end_of s h start → has_event s (drop (start + 1) (take place h)) ≡ false
 between_none s h start place below still =
-    let m : ℕ = place - (start + 1) in
-    let sum : start + 1 + m ≡ place = omega arith in
-    let part : drop (start + 1) (take place h) ≡ take m (drop (start + 1) h) = ap (λ n. drop (start + 1) (take n h)) (sym sum) ∙ drop-take (start + 1) m h in
-    ap (has_event s) part ∙ none-first_place s (drop (start + 1) h) m (omega arith)
+    grind (arith, drop-take (start + 1) (place - (start + 1)) h, none-first_place s (drop (start + 1) h) (place - (start + 1)) (omega arith))
 
 -- a side with an event has a last one
 pub last_exists : (s : Side) (k : List Event) → has_event s k ≡ true → (p : ℕ) × IsLastPlace s k p
@@ -69,24 +53,17 @@ last_exists s (x ∷ k) some =
           let r = last_exists s k e in
           let next : suc (r.0 + 1) ≡ suc r.0 + 1 = omega arith in
           (suc r.0, record { event = r.1.event; at_place = r.1.at_place; by_side = r.1.by_side; none_after = subst (λ n. has_event s (drop n (x ∷ k)) ≡ false) next r.1.none_after })
-      | false ↦ λ e.
-          (0, record { event = x; at_place = refl; by_side = elim (or_cases (is_by s x) (has_event s k) some) [ inl q ↦ q | inr q ↦ absurd (false≢true (sym e ∙ q)) ]; none_after = e })
+      | false ↦ λ e. grind (arith, or_cases, false≢true)
     ] refl
 
 -- the access that a side has open after the events before a place, by its interval
 pub IsLastPlace-access : (h : List Event) (s : Side) (access : Access) (start stop place : ℕ) → IsAccess h s access start stop → start < place → place ≤ stop → IsLastPlace s (take place h) start
-IsLastPlace-access h s access start stop place a below still = record {
-  event = a.event;
-  at_place = slice_get-take h place start a.event a.at_start below;
-  by_side = ap (same_side s) a.by_side ∙ same_side-same s;
-  none_after = between_none s h start place below (subst (λ n. place ≤ n) a.ends still);
-}
+IsLastPlace-access h s access start stop place a below still = grind (arith, slice_get-take, same_side-same, between_none)
 
 pub open_access-from : (h : List Event) (s : Side) (access : Access) (place : ℕ) → IsOpenAt h s access place → open_access s (take place h) ≡ Some access
 unfolding IsLastPlace-access
 open_access-from h s access place o =
-    let last : IsLastPlace s (take place h) o.0 = IsLastPlace-access h s access o.0 o.1 place o.2 o.3 o.4 in
-    ap (option_and_then begun_by) (last_event-place s (take place h) o.0 last) ∙ o.2.begins
+    grind (arith, IsLastPlace-access h s access o.0 o.1 place o.2 o.3 o.4, last_event-place s (take place h) o.0 (IsLastPlace-access h s access o.0 o.1 place o.2 o.3 o.4))
 
 pub IsOpenAt-from : (h : List Event) (s : Side) (access : Access) (place : ℕ) → place ≤ length h → open_access s (take place h) ≡ Some access → IsOpenAt h s access place
 IsOpenAt-from h s access place within still =
@@ -102,28 +79,16 @@ IsOpenAt-from h s access place within still =
 
 -- an event that begins a write of a bit
 pub same_bit-same : (b : Bit) → same_bit b b ≡ true
-same_bit-same (S i) = eq-eqb i i refl
-same_bit-same (R i) = eq-eqb i i refl
-same_bit-same X = refl
-same_bit-same (Cell j i) = and_from (j == j) (i == i) (eq-eqb j j refl) (eq-eqb i i refl)
+same_bit-same b = grind (arith, eq-eqb, and_from)
 
 pub value_written-from : (b : Bit) (o : Option Access) (v : Bool) → value_written b o ≡ Some v → o ≡ Some (Write b v)
-value_written-from b None v e = cc
-value_written-from b (Some (Read c)) v e = cc
-value_written-from b (Some (Write c w)) v e =
-    elim (same_bit b c) as (λ t. same_bit b c ≡ t → (if t then Some w else None) ≡ Some v → Some (Write c w) ≡ Some (Write b v)) [
-      | true ↦ λ same k. let bits : b ≡ c = same_bit-true b c same in let values : w ≡ v = cc in cc
-      | false ↦ λ same k. cc
-    ] refl e
+value_written-from b o v e = grind (arith, same_bit-true)
 
 pub value_written-to : (b : Bit) (o : Option Access) (v : Bool) → o ≡ Some (Write b v) → value_written b o ≡ Some v
 value_written-to b o v e = ap (value_written b) e ∙ ap (λ t. if t then Some v else None) (same_bit-same b)
 
 pub begins_write : (b c : Bit) (a : Act) (v : Bool) → begun_access c a ≡ Some (Write b v) → doer c a ≡ writer b
-begins_write b c ReadBegin v e = cc
-begins_write b c (ReadEnd w) v e = cc
-begins_write b c (WriteBegin w) v e = let bits : c ≡ b = cc in ap writer bits
-begins_write b c WriteEnd v e = cc
+begins_write b c a v e = grind arith
 
 -- a write that began is at a place
 pub record IsWriteAt (b : Bit) (k : List Event) : Type 0 where
@@ -147,8 +112,7 @@ write_exists b (x ∷ k) some =
 pub write_found : (b : Bit) (k : List Event) (p : ℕ) (e : Event) (v : Bool) → slice_get k p ≡ Some e → write_of b e ≡ Some v → not (is_empty (writes_begun b k)) ≡ true
 write_found b [] p e v at writes = cc
 write_found b (x ∷ k) zero e v at writes = let same : x ≡ e = cc in ap (λ o. not (is_empty (cons_option o (writes_begun b k)))) (ap (write_of b) same ∙ writes)
-write_found b (x ∷ k) (suc p) e v at writes =
-    elim (write_of b x) as (λ o. not (is_empty (cons_option o (writes_begun b k))) ≡ true) [ Some w ↦ refl | None ↦ write_found b k p e v at writes ]
+write_found b (x ∷ k) (suc p) e v at writes = grind (arith, write_found b k p e v at writes)
 
 pub has_event-found : (s : Side) (k : List Event) (p : ℕ) (e : Event) → slice_get k p ≡ Some e → is_by s e ≡ true → has_event s k ≡ true
 has_event-found s [] p e at by = cc

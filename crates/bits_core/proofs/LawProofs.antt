@@ -1,5 +1,5 @@
 -- The laws, proved.
-use Rattle.std.proofs.Common.{[], ◌∷◌, ◌++◌, length, take, ap, sym, subst, ◌∙◌, arith}
+use Rattle.std.proofs.Common.{◌++◌, length, take, ap, sym, subst, ◌∙◌, arith, []}
 use Rattle.std.proofs.Math.Seq.{take-length}
 use Rattle.bits_core.specs.History.{open_access, held}
 use Rattle.bits_core.specs.Intervals.{IsHeld}
@@ -18,10 +18,7 @@ pub beginning_is_lawful : BeginningIsLawful
 beginning_is_lawful shape h later lawful = IsLawful-from shape h (EachMayFollow-append shape h later (IsLawful-to shape (h ++ later) lawful))
 
 pub lawful_by_one_more : LawfulByOneMore
-lawful_by_one_more shape h e = (
-  λ lawful. (beginning_is_lawful shape h (e ∷ []) lawful, EachMayFollow-last shape h e (IsLawful-to shape (h ++ e ∷ []) lawful)),
-  λ both. IsLawful-from shape (h ++ e ∷ []) (EachMayFollow-push shape h e (IsLawful-to shape h both.0) both.1),
-)
+lawful_by_one_more shape h e = grind (arith, beginning_is_lawful, EachMayFollow-last, IsLawful-to, IsLawful-from, EachMayFollow-push)
 
 pub open_is_by_interval : OpenIsByInterval
 open_is_by_interval h s access = (

@@ -13,9 +13,10 @@ use Rattle.bits_core.specs.History.{has_event, open_access, held, is_overlapped,
 use Rattle.bits_core.specs.declared.events.Act.{Act}
 use Rattle.bits_core.specs.declared.events.Act.TheVariants.{ReadBegin, ReadEnd, WriteBegin, WriteEnd}
 use Rattle.bits_core.specs.declared.shapes.Shape.{Shape}
-use Rattle.bits_core.specs.Steps.{FitsOpen, IsAnswer, IsPermittedAct, MayFollow, EachMayFollow}
+use Rattle.bits_core.specs.Steps.{FitsOpen, IsAnswer, IsPermittedAct, MayFollow}
 use Rattle.bits_core.specs.Lawful.{TakesTurn, AnswersSafely, IsLawfulEvent, IsLawful}
 use Rattle.bits_core.specs.Intervals.{IsRead, end_of, IsAccess, IsHeld, HasOverlap, IsOpenAt}
+use Rattle.bits_core.proofs.StepLemmas.{EachMayFollow}
 use Rattle.bits_core.proofs.Changes.{same_side-same}
 use Rattle.bits_core.proofs.IntervalLemmas.{between_none, IsLastPlace-access, open_access-from, IsOpenAt-from, has_event-found}
 use Rattle.bits_core.proofs.Places.{slice_get-take, slice_get-drop}
@@ -96,28 +97,17 @@ module _ (h : List Event) (place : ℕ) (sides : IsByDoers h place) (s : Side) (
   AnswersSafely-from WriteEnd at p = tt
 
   pub AnswersSafely-to : (a : Act) → slice_get h place ≡ Some (record { side = s; bit = b; act = a }) → TakesTurn h place s b a → AnswersSafely h place s b a → IsPermittedAct (take place h) s b a
-  AnswersSafely-to ReadBegin at turn p = tt
-  AnswersSafely-to (WriteBegin v) at turn p = tt
-  AnswersSafely-to (ReadEnd v) at turn p = answer-to v at turn p
-  AnswersSafely-to WriteEnd at turn p = tt
+  AnswersSafely-to a at turn p = grind (arith, answer-to)
 
 -- one event, in the two forms
 pub IsByDoers-steps : (shape : Shape) (h : List Event) (place : ℕ) → EachMayFollow shape (take place h) → IsByDoers h place
 IsByDoers-steps shape h place lawful = record { each = λ p e below at. (lawful.each p e (slice_get-take h place p e at below)).right_side.by_doer }
 
 pub IsLawfulEvent-from : (shape : Shape) (h : List Event) (place : ℕ) (e : Event) → IsByDoers h place → slice_get h place ≡ Some e → MayFollow shape (take place h) e → IsLawfulEvent shape h place e
-IsLawfulEvent-from shape h place e sides at f = record {
-  right_side = f.right_side;
-  in_turn = TakesTurn-from h place sides e.side e.bit e.act at f.in_turn;
-  permitted = AnswersSafely-from h place sides e.side e.bit e.act at f.permitted;
-}
+IsLawfulEvent-from shape h place e sides at f = grind (arith, TakesTurn-from, AnswersSafely-from)
 
 pub IsLawfulEvent-to : (shape : Shape) (h : List Event) (place : ℕ) (e : Event) → IsByDoers h place → slice_get h place ≡ Some e → IsLawfulEvent shape h place e → MayFollow shape (take place h) e
-IsLawfulEvent-to shape h place e sides at f = record {
-  right_side = f.right_side;
-  in_turn = TakesTurn-to h place sides e.side e.bit e.act at f.in_turn;
-  permitted = AnswersSafely-to h place sides e.side e.bit e.act at f.in_turn f.permitted;
-}
+IsLawfulEvent-to shape h place e sides at f = grind (arith, TakesTurn-to, AnswersSafely-to)
 
 -- the two forms of a lawful history agree
 pub IsLawful-from : (shape : Shape) (h : List Event) → EachMayFollow shape h → IsLawful shape h

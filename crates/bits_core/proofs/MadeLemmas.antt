@@ -1,5 +1,5 @@
 -- The accesses that a side made, and those of the history.
-use Rattle.std.proofs.Common.{◌≡◌, ℕ, zero, suc, ◌+◌, ◌*◌, ◌<◌, true, Some, None, List, [], ◌∷◌, ◌++◌, length, refl, ap, sym, subst, ◌∙◌, arith, take_at}
+use Rattle.std.proofs.Common.{◌≡◌, ℕ, zero, suc, ◌+◌, ◌*◌, ◌<◌, true, Some, None, List, ◌∷◌, length, refl, ap, sym, subst, ◌∙◌, arith, take_at, []}
 use Rattle.std.specs.Prelude.{slice_get}
 use Rattle.std.proofs.lemmas.Option.{none-some}
 use Rattle.bits_core.specs.declared.events.Side.{Side}
@@ -7,24 +7,21 @@ use Rattle.bits_core.specs.declared.events.Access.{Access}
 use Rattle.bits_core.specs.declared.events.Event.{Event}
 use Rattle.bits_core.specs.Bits.{same_side, is_by, begun_by}
 use Rattle.bits_core.specs.Intervals.{end_of, IsAccess}
-use Rattle.bits_core.specs.Made.{Made, Read, Write, access_of, begin_event, end_event, events_of, IsPrefix, subhistory, clock, place_of, IsPlaceOf, IsMadeAt}
-use Rattle.bits_core.proofs.Statements.{MadeIsAccess, AccessIsMade}
+use Rattle.bits_core.specs.Made.{Made, access_of, begin_event, end_event, events_of, IsPrefix, subhistory, clock, place_of, IsPlaceOf}
+use Rattle.bits_core.proofs.Statements.{IsMadeAt, MadeIsAccess, AccessIsMade}
 use Rattle.bits_core.proofs.Places.{slice_get-append, slice_get-take}
 use Rattle.bits_core.proofs.Changes.{same_side-same}
 use Rattle.bits_core.proofs.OwnEvents.{subhistory_has_place, subhistory_has_one_place, place-next, IsOwn, own_at}
 
 -- the two events of an access
 pub begin_by : (s : Side) (x : Made) → (begin_event s x).side ≡ s
-begin_by s (Read b v) = refl
-begin_by s (Write b v) = refl
+begin_by s x = grind arith
 
 pub begin_begins : (s : Side) (x : Made) → begun_by (begin_event s x) ≡ Some (access_of x)
-begin_begins s (Read b v) = refl
-begin_begins s (Write b v) = refl
+begin_begins s x = grind arith
 
 pub end_begins_none : (s : Side) (x : Made) → begun_by (end_event s x) ≡ None
-end_begins_none s (Read b v) = refl
-end_begins_none s (Write b v) = refl
+end_begins_none s x = grind arith
 
 begin_get : (s : Side) (made : List Made) (n : ℕ) (x : Made) → slice_get made n ≡ Some x → slice_get (events_of s made) (2 * n) ≡ Some (begin_event s x)
 begin_get s [] n x at = absurd (none-some x at)
@@ -50,18 +47,14 @@ begun_get s (x ∷ made) zero e access at begins =
     let same : begin_event s x ≡ e = cc in
     let accesses : Some (access_of x) ≡ Some access = sym (begin_begins s x) ∙ ap begun_by same ∙ begins in
     record { number = 0; made_access = x; is_begin = omega arith; is_made = refl; same_access = cc }
-begun_get s (x ∷ made) (suc zero) e access at begins =
-    let same : end_event s x ≡ e = cc in
-    absurd (none-some access (sym (end_begins_none s x) ∙ ap begun_by same ∙ begins))
+begun_get s (x ∷ made) (suc zero) e access at begins = grind (arith, none-some, end_begins_none)
 begun_get s (x ∷ made) (suc (suc i)) e access at begins =
     let r : IsBegun made i access = begun_get s made i e access at begins in
     record { number = suc r.number; made_access = r.made_access; is_begin = omega (arith, r.is_begin); is_made = r.is_made; same_access = r.same_access }
 
 -- an event of the accesses that has happened is one of the side's own
 own_get : (s : Side) (h : List Event) (made : List Made) → IsPrefix (subhistory s h) (events_of s made) → (i : ℕ) (e : Event) → slice_get (events_of s made) i ≡ Some e → i < length (subhistory s h) → slice_get (subhistory s h) i ≡ Some e
-own_get s h made follows i e at within =
-    let there : slice_get (subhistory s h ++ follows.0) i ≡ Some e = ap (λ l. slice_get l i) follows.1 ∙ at in
-    subst (λ l. slice_get l i ≡ Some e) (take_at (subhistory s h) follows.0 (length (subhistory s h)) refl) (slice_get-take (subhistory s h ++ follows.0) (length (subhistory s h)) i e there within)
+own_get s h made follows i e at within = grind (arith, slice_get-take, take_at (subhistory s h) follows.0 (length (subhistory s h)) refl)
 
 -- an access of the history that starts with an access that was made ends with its end
 made_at : (s : Side) (h : List Event) (made : List Made) → IsPrefix (subhistory s h) (events_of s made) → (n : ℕ) (x : Made) → slice_get made n ≡ Some x

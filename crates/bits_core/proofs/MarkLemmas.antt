@@ -1,5 +1,5 @@
 -- Marks, maintained event by event.
-use Rattle.std.proofs.Common.{◌≡◌, ◌≢◌, ℕ, zero, suc, ◌+◌, ◌*◌, ◌<◌, ◌≤◌, ◌||◌, Bool, true, false, not, cond, Option, Some, None, List, [], ◌∷◌, ◌++◌, length, get_or, take, refl, ap, sym, subst, ◌∙◌, arith}
+use Rattle.std.proofs.Common.{◌≡◌, ◌≢◌, ℕ, zero, suc, ◌+◌, ◌<◌, ◌≤◌, ◌||◌, Bool, true, false, not, cond, Option, Some, None, List, ◌∷◌, ◌++◌, length, get_or, take, refl, ap, sym, subst, ◌∙◌, arith, []}
 use Rattle.std.proofs.Math.ListN.{set}
 use Rattle.std.specs.Prelude.{if◌then◌else◌, is_some, unwrap_or}
 use Rattle.std.proofs.lemmas.Bool.{false≢true, or_parts, and_parts, ltb-true}
@@ -8,9 +8,9 @@ use Rattle.std.proofs.lemmas.Option.{none-some}
 use Rattle.std.proofs.lemmas.List.{take_more, get_or-set_same, get_or-set_other, length-set}
 use Rattle.std.proofs.Math.Seq.{take-length}
 use Rattle.bits_core.specs.declared.events.Side.{Side}
-use Rattle.bits_core.specs.declared.events.Side.TheVariants.{P, C}
+use Rattle.bits_core.specs.declared.events.Side.TheVariants.{P}
 use Rattle.bits_core.specs.declared.events.Bit.{Bit}
-use Rattle.bits_core.specs.declared.events.Bit.TheVariants.{S, R, X, Cell}
+use Rattle.bits_core.specs.declared.events.Bit.TheVariants.{S}
 use Rattle.bits_core.specs.declared.events.Act.{Act}
 use Rattle.bits_core.specs.declared.events.Act.TheVariants.{ReadBegin, ReadEnd, WriteBegin, WriteEnd}
 use Rattle.bits_core.specs.declared.events.Access.{Access}
@@ -23,62 +23,29 @@ use Rattle.bits_core.specs.Bits.{other, writer, reader, doer, first_value, same_
 use Rattle.bits_core.specs.Shape.{belongs}
 use Rattle.bits_core.specs.History.{open_access, open_write, held, held_at_begin, is_overlapped}
 use Rattle.bits_core.specs.Lawful.{IsLawful}
-use Rattle.bits_core.specs.Steps.{FitsOpen, MayFollow, EachMayFollow}
-use Rattle.bits_core.specs.Marks.{AreMarks, IsInTable, IsMark, beside, idle, is_read_of, side_mark, table_place, seat_of, settled, value_ended, with_mark, with_value}
-use Rattle.bits_core.specs.Open.{IsOpenRight}
+use Rattle.bits_core.specs.Steps.{FitsOpen, MayFollow}
+use Rattle.bits_core.specs.Marks.{AreMarks, IsInTable, IsMark, beside, idle, side_mark, table_place, seat_of, settled, value_ended, with_mark, with_value}
 use Rattle.bits_core.proofs.Changes.{AllByDoer, AllByDoer-lawful, same_bit-true, same_side-same, open_write-push, held-push, held_at_begin-push, is_overlapped-push}
 use Rattle.bits_core.proofs.Histories.{open_access-push}
 use Rattle.bits_core.proofs.IntervalLemmas.{same_side-true}
 use Rattle.bits_core.proofs.LawfulLemmas.{IsLawful-to}
 use Rattle.bits_core.proofs.LawProofs.{empty_is_lawful, lawful_by_one_more}
 use Rattle.bits_core.proofs.OpenAccesses.{open_right}
-use Rattle.bits_core.proofs.StepLemmas.{EachMayFollow-take}
+use Rattle.bits_core.proofs.StepLemmas.{EachMayFollow, EachMayFollow-take}
 use Rattle.bits_core.proofs.OwnOpen.{not_open as none_when}
 
 -- ---- the table
 
 -- it has room for each bit of a shape
 pub IsInTable-belongs : (shape : Shape) (b : Bit) → belongs shape b ≡ true → IsInTable b
-IsInTable-belongs shape (S i) has =
-    let below : i < shape.modulus = ltb-true i shape.modulus has in
-    omega (arith, shape.small_modulus)
-IsInTable-belongs shape (R i) has =
-    let below : i < shape.modulus = ltb-true i shape.modulus has in
-    omega (arith, shape.small_modulus)
-IsInTable-belongs shape X has = tt
-IsInTable-belongs shape (Cell j i) has =
-    let parts = and_parts _ _ has in
-    let cell : j < shape.capacity = ltb-true j shape.capacity parts.0 in
-    let digit : i < shape.width = ltb-true i shape.width parts.1 in
-    (omega (arith, shape.few_cells), omega (arith, shape.few_digits))
+IsInTable-belongs shape b has = grind (arith, ltb-true, and_parts)
 
 place-within : (b : Bit) → IsInTable b → table_place b < 4609
-place-within (S i) room = omega arith
-place-within (R i) room = omega arith
-place-within X room = omega arith
-place-within (Cell j i) room = omega arith
+place-within b room = grind arith
 
 -- two bits are at two places
 places-apart : (b c : Bit) → IsInTable b → IsInTable c → same_bit b c ≡ false → table_place b ≢ table_place c
-places-apart (S i) (S j) p q apart = λ e. grind (arith, nat_tests)
-places-apart (S i) (R j) p q apart = λ e. omega arith
-places-apart (S i) X p q apart = λ e. omega arith
-places-apart (S i) (Cell j k) p q apart = λ e. omega arith
-places-apart (R i) (S j) p q apart = λ e. omega arith
-places-apart (R i) (R j) p q apart = λ e. grind (arith, nat_tests)
-places-apart (R i) X p q apart = λ e. omega arith
-places-apart (R i) (Cell j k) p q apart = λ e. omega arith
-places-apart X (S j) p q apart = λ e. omega arith
-places-apart X (R j) p q apart = λ e. omega arith
-places-apart X X p q apart = absurd (false≢true (sym apart))
-places-apart X (Cell j k) p q apart = λ e. omega arith
-places-apart (Cell i l) (S j) p q apart = λ e. omega arith
-places-apart (Cell i l) (R j) p q apart = λ e. omega arith
-places-apart (Cell i l) X p q apart = λ e. omega arith
-places-apart (Cell i l) (Cell j k) p q apart = λ e.
-    let cell : i ≡ j = omega arith in
-    let digit : l ≡ k = omega arith in
-    grind (arith, nat_tests)
+places-apart b c p q apart = grind (arith, nat_tests, false≢true)
 
 -- a value is set, and all others are as they were
 set-values : (values : List Bool) (c b : Bit) (v : Bool) → length values ≡ 4609 → IsInTable c → IsInTable b
@@ -95,61 +62,22 @@ not_zero i = grind (arith, nat_tests)
 -- the table of the first values
 pub first_values-at : (none : List Bool) → length none ≡ 4609 → ((k : ℕ) → k < 4609 → get_or none k false ≡ false)
     → (b : Bit) → IsInTable b → get_or (set (set none 0 true) 256 true) (table_place b) false ≡ first_value b
-first_values-at none size all (S zero) room = get_or-set_other (set none 0 true) 256 0 true false (λ e. omega arith) ∙ get_or-set_same none 0 true false (omega (arith, size))
-first_values-at none size all (S (suc i)) room = get_or-set_other (set none 0 true) 256 (suc i) true false (λ e. omega arith) ∙ get_or-set_other none 0 (suc i) true false (λ e. omega arith) ∙ all (suc i) (omega arith) ∙ not_zero i
-first_values-at none size all (R zero) room = get_or-set_same (set none 0 true) 256 true false (omega (arith, size, length-set none 0 true))
-first_values-at none size all (R (suc i)) room = get_or-set_other (set none 0 true) 256 (256 + suc i) true false (λ e. omega arith) ∙ get_or-set_other none 0 (256 + suc i) true false (λ e. omega arith) ∙ all (256 + suc i) (omega arith) ∙ not_zero i
-first_values-at none size all X room = get_or-set_other (set none 0 true) 256 512 true false (λ e. omega arith) ∙ get_or-set_other none 0 512 true false (λ e. omega arith) ∙ all 512 (omega arith)
-first_values-at none size all (Cell j i) room = get_or-set_other (set none 0 true) 256 (513 + 64 * j + i) true false (λ e. omega arith) ∙ get_or-set_other none 0 (513 + 64 * j + i) true false (λ e. omega arith) ∙ all (513 + 64 * j + i) (omega arith)
+first_values-at none size all b room = grind (arith, get_or-set_other, get_or-set_same, not_zero, length-set)
 
 pub AreMarks-empty : (values : List Bool) → length values ≡ 4609 → ((b : Bit) → IsInTable b → get_or values (table_place b) false ≡ first_value b)
     → (shape : Shape) → AreMarks shape [] (record { values = values; sides = idle ∷ idle ∷ [] })
-AreMarks-empty values size first shape = record {
-  lawful = empty_is_lawful shape;
-  size = size;
-  seats = refl;
-  values = first;
-  sides = λ s. elim s as (λ t. IsMark t [] (side_mark t (record { values = values; sides = idle ∷ idle ∷ [] }))) [
-    | P ↦ record { opened_is = refl; overlapped_is = λ b e. absurd (none-some (Read b) e) }
-    | C ↦ record { opened_is = refl; overlapped_is = λ b e. absurd (none-some (Read b) e) }
-  ];
-}
+AreMarks-empty values size first shape = grind (arith, empty_is_lawful, none-some)
 
 -- ---- a read that no write overlaps: its bit still holds what it held when the read began
 
 not_other : (s t : Side) → same_side s t ≡ not (same_side (other s) t)
-not_other P P = refl
-not_other P C = refl
-not_other C P = refl
-not_other C C = refl
+not_other s t = grind arith
 
 abbrev Quiet : Bit → List Event → Type 0
 Quiet b h = is_overlapped (reader b) b h ≡ false → (open_write b h ≡ None) × (held_at_begin (reader b) b h ≡ held b h)
 
 quiet-push : (b : Bit) (h : List Event) (e : Event) → AllByDoer h → Quiet b h → Quiet b (h ++ e ∷ [])
-quiet-push b h e by before none =
-    let r : Side = reader b in
-    let w : Side = writer b in
-    let turn : is_by w e ≡ not (is_by r e) = not_other w e.side in
-    elim (is_by r e) as (λ t. is_by r e ≡ t → (open_write b (h ++ e ∷ []) ≡ None) × (held_at_begin r b (h ++ e ∷ []) ≡ held b (h ++ e ∷ []))) [
-      | true ↦ λ own.
-          let not_writer : is_by w e ≡ false = turn ∙ ap not own in
-          let quiet : is_some (open_write b h) ≡ false = sym (is_overlapped-push r b h e ∙ ap (λ t. cond t (is_some (open_write b h)) (is_overlapped r b h || is_some (write_of b e))) own) ∙ none in
-          let still : open_write b (h ++ e ∷ []) ≡ open_write b h = open_write-push b h e ∙ ap (λ t. cond t (write_of b e) (open_write b h)) not_writer in
-          let begins : held_at_begin r b (h ++ e ∷ []) ≡ held b h = held_at_begin-push r b h e ∙ ap (λ t. cond t (held b h) (held_at_begin r b h)) own in
-          let holds : held b (h ++ e ∷ []) ≡ held b h = held-push b h e by ∙ ap (λ t. cond t (unwrap_or (open_write b h) (held b h)) (held b h)) not_writer in
-          (still ∙ none_when (open_write b h) quiet, begins ∙ sym holds)
-      | false ↦ λ not_own.
-          let is_writer : is_by w e ≡ true = turn ∙ ap not not_own in
-          let quiet : (is_overlapped r b h || is_some (write_of b e)) ≡ false = sym (is_overlapped-push r b h e ∙ ap (λ t. cond t (is_some (open_write b h)) (is_overlapped r b h || is_some (write_of b e))) not_own) ∙ none in
-          let parts = or_parts (is_overlapped r b h) (is_some (write_of b e)) quiet in
-          let so_far = before parts.0 in
-          let opens : open_write b (h ++ e ∷ []) ≡ write_of b e = open_write-push b h e ∙ ap (λ t. cond t (write_of b e) (open_write b h)) is_writer in
-          let begins : held_at_begin r b (h ++ e ∷ []) ≡ held_at_begin r b h = held_at_begin-push r b h e ∙ ap (λ t. cond t (held b h) (held_at_begin r b h)) not_own in
-          let holds : held b (h ++ e ∷ []) ≡ unwrap_or (open_write b h) (held b h) = held-push b h e by ∙ ap (λ t. cond t (unwrap_or (open_write b h) (held b h)) (held b h)) is_writer in
-          let same : unwrap_or (open_write b h) (held b h) ≡ held b h = ap (λ o. unwrap_or o (held b h)) so_far.0 in
-          (opens ∙ none_when (write_of b e) parts.1, begins ∙ so_far.1 ∙ sym (holds ∙ same))
-    ] refl
+quiet-push b h e by before none = grind (arith, not_other, is_overlapped-push, open_write-push, held_at_begin-push, held-push, none_when, or_parts)
 
 quiet-take : (shape : Shape) (b : Bit) (h : List Event) (d : Event) → EachMayFollow shape h → (n : ℕ) → n ≤ length h → Quiet b (take n h)
 quiet-take shape b h d lawful zero within = λ none. (refl, refl)
@@ -159,64 +87,34 @@ quiet-take shape b h d lawful (suc n) within =
 
 quiet_holds : (shape : Shape) (b : Bit) (h : List Event) → IsLawful shape h → is_overlapped (reader b) b h ≡ false → held_at_begin (reader b) b h ≡ held b h
 quiet_holds shape b h lawful none =
-    let d : Event = record { side = P; bit = b; act = ReadBegin } in
-    (subst (λ t. Quiet b t) (take-length h) (quiet-take shape b h d (IsLawful-to shape h lawful) (length h) (omega arith)) none).1
+    grind (arith, take-length h, quiet-take shape b h (record { side = P; bit = b; act = ReadBegin }) (IsLawful-to shape h lawful) (length h) (omega arith), IsLawful-to shape h lawful)
 
 -- so the marks know what an open read has to answer
 pub settled-is : (shape : Shape) (h : List Event) (s : Side) (b : Bit) (marks : Marks) → AreMarks shape h marks → open_access s h ≡ Some (Read b) → IsInTable b
     → (if (side_mark s marks).overlapped then None else Some (get_or marks.values (table_place b) false)) ≡ settled s b h
-settled-is shape h s b marks are reads room =
-    let mark = are.sides s in
-    let tells : (side_mark s marks).overlapped ≡ is_overlapped s b h = mark.overlapped_is b (mark.opened_is ∙ reads) in
-    let right : IsOpenRight shape s (Read b) = open_right shape h s (Read b) are.lawful reads in
-    let value : is_overlapped s b h ≡ false → get_or marks.values (table_place b) false ≡ held_at_begin s b h = λ none.
-    are.values b room ∙ sym (subst (λ r. is_overlapped r b h ≡ false → held_at_begin r b h ≡ held b h) (sym right.1) (quiet_holds shape b h are.lawful) none) in
-    ap (λ t. if t then None else Some (get_or marks.values (table_place b) false)) tells ∙
-    elim (is_overlapped s b h) as (λ t. is_overlapped s b h ≡ t → (if t then None else Some (get_or marks.values (table_place b) false)) ≡ (if t then None else Some (held_at_begin s b h))) [
-      | true ↦ λ e. refl
-      | false ↦ λ e. ap Some (value e)
-    ] refl
+settled-is shape h s b marks are reads room = grind (arith, open_right shape h s (Read b) are.lawful reads, quiet_holds shape b h are.lawful)
 
 -- the answer of a read, by what it has to answer and what an oracle is asked
 pub overlapped-is : (s : Side) (b : Bit) (h : List Event) (due : Option Bool) (none : Bool) → due ≡ settled s b h → is_some due ≡ not none → none ≡ is_overlapped s b h
-overlapped-is s b h due none is some =
-    same none (is_overlapped s b h) (sym some ∙ ap is_some is ∙ elim (is_overlapped s b h) as (λ t. is_some (if t then None else Some (held_at_begin s b h)) ≡ not t) [ true ↦ refl | false ↦ refl ])
-  where
-    same : (x y : Bool) → not x ≡ not y → x ≡ y
-    same true true e = refl
-    same true false e = cc
-    same false true e = cc
-    same false false e = refl
+overlapped-is s b h due none is some = grind arith
 
 pub answer-is : (s : Side) (b : Bit) (h : List Event) (due : Option Bool) (asked : Bool) → due ≡ settled s b h → unwrap_or due asked ≡ (if is_overlapped s b h then asked else held_at_begin s b h)
-answer-is s b h due asked is =
-    ap (λ o. unwrap_or o asked) is ∙ elim (is_overlapped s b h) as (λ t. unwrap_or (if t then None else Some (held_at_begin s b h)) asked ≡ (if t then asked else held_at_begin s b h)) [ true ↦ refl | false ↦ refl ]
+answer-is s b h due asked is = grind arith
 
 -- ---- one more event
 
 both : (t : Bool) (v : Bool) → cond t v v ≡ v
-both true v = refl
-both false v = refl
+both t v = grind arith
 
 no_write : (o : Option Access) (s : Side) (c b : Bit) (v : Bool) → value_written b o ≡ None → cond (same_side (writer b) s) (unwrap_or (value_written b o) v) v ≡ cond (same_bit b c) v v
 no_write o s c b v none = ap (λ x. cond (same_side (writer b) s) (unwrap_or x v) v) none ∙ both (same_side (writer b) s) v ∙ sym (both (same_bit b c) v)
 
 write_ends : (s : Side) (c b : Bit) (w v : Bool) → s ≡ writer c → cond (same_side (writer b) s) (unwrap_or (cond (same_bit b c) (Some w) None) v) v ≡ cond (same_bit b c) w v
-write_ends s c b w v by =
-    elim (same_bit b c) as (λ t. same_bit b c ≡ t → cond (same_side (writer b) s) (unwrap_or (cond t (Some w) None) v) v ≡ cond t w v) [
-      | true ↦ λ same.
-          let own : same_side (writer b) s ≡ true = ap (same_side (writer b)) (by ∙ sym (ap writer (same_bit-true b c same))) ∙ same_side-same (writer b) in
-          ap (λ t. cond t w v) own
-      | false ↦ λ apart. both (same_side (writer b) s) v
-    ] refl
+write_ends s c b w v by = grind (arith, same_bit-true, same_side-same, both)
 
 act_ends : (o : Option Access) (s : Side) (c : Bit) (a : Act) (b : Bit) (v : Bool) → s ≡ doer c a → FitsOpen c a o
     → cond (same_side (writer b) s) (unwrap_or (value_written b o) v) v ≡ cond (same_bit b c) (unwrap_or (value_ended a o) v) v
-act_ends o s c ReadBegin b v by fits = no_write o s c b v (ap (value_written b) fits)
-act_ends o s c (ReadEnd x) b v by fits = no_write o s c b v (ap (value_written b) fits)
-act_ends o s c (WriteBegin x) b v by fits = no_write o s c b v (ap (value_written b) fits)
-act_ends o s c WriteEnd b v by fits =
-    subst (λ (o : Option Access). cond (same_side (writer b) s) (unwrap_or (value_written b o) v) v ≡ cond (same_bit b c) (unwrap_or (value_ended WriteEnd o) v) v) (sym fits.1) (write_ends s c b fits.0 v by)
+act_ends o s c a b v by fits = grind (arith, no_write, write_ends)
 
 -- what a bit holds changes when the open write of it ends
 held-ends : (shape : Shape) (h : List Event) (s : Side) (c : Bit) (a : Act) (b : Bit) → IsLawful shape h → s ≡ doer c a → FitsOpen c a (open_access s h)
@@ -225,35 +123,17 @@ held-ends shape h s c a b lawful by fits =
     let e : Event = record { side = s; bit = c; act = a } in
     let v : Bool = held b h in
     let changes : held b (h ++ e ∷ []) ≡ (if same_side (writer b) s then unwrap_or (value_written b (open_access (writer b) h)) v else v) = held-push b h e (AllByDoer-lawful shape h (IsLawful-to shape h lawful)) in
-    let own : (if same_side (writer b) s then unwrap_or (value_written b (open_access (writer b) h)) v else v) ≡ (if same_side (writer b) s then unwrap_or (value_written b (open_access s h)) v else v) =
-    elim (same_side (writer b) s) as (λ t. same_side (writer b) s ≡ t → (if t then unwrap_or (value_written b (open_access (writer b) h)) v else v) ≡ (if t then unwrap_or (value_written b (open_access s h)) v else v)) [
-      | true ↦ λ same. ap (λ x. unwrap_or (value_written b (open_access x h)) v) (sym (same_side-true (writer b) s same))
-      | false ↦ λ other. refl
-    ] refl in
-    changes ∙ own ∙ act_ends (open_access s h) s c a b v by fits
+    grind (arith, same_side-true, act_ends)
 
 -- the event's own side
 mark-own : (h : List Event) (e : Event) (mark : SideMark) → mark.opened ≡ begun_by e
     → ((b : Bit) → begun_by e ≡ Some (Read b) → mark.overlapped ≡ is_some (open_write b h)) → IsMark e.side (h ++ e ∷ []) mark
-mark-own h e mark opened overlapped =
-    let own : is_by e.side e ≡ true = same_side-same e.side in
-    record {
-      opened_is = opened ∙ sym (open_access-push e.side h e ∙ ap (λ t. cond t (begun_by e) (open_access e.side h)) own);
-      overlapped_is = λ b reads.
-          overlapped b (sym opened ∙ reads)
-          ∙ sym (is_overlapped-push e.side b h e ∙ ap (λ t. cond t (is_some (open_write b h)) (is_overlapped e.side b h || is_some (write_of b e))) own);
-    }
+mark-own h e mark opened overlapped = grind (arith, same_side-same, open_access-push, is_overlapped-push)
 
 -- the other side
 mark-beside : (s : Side) (h : List Event) (e : Event) (mark before : SideMark) → is_by s e ≡ false → IsMark s h before
     → mark.opened ≡ before.opened → ((b : Bit) → before.opened ≡ Some (Read b) → mark.overlapped ≡ (before.overlapped || is_some (write_of b e))) → IsMark s (h ++ e ∷ []) mark
-mark-beside s h e mark before other is opened overlapped = record {
-  opened_is = opened ∙ is.opened_is ∙ sym (open_access-push s h e ∙ ap (λ t. cond t (begun_by e) (open_access s h)) other);
-  overlapped_is = λ b reads.
-      let read : before.opened ≡ Some (Read b) = sym opened ∙ reads in
-      overlapped b read ∙ ap (λ t. t || is_some (write_of b e)) (is.overlapped_is b read)
-      ∙ sym (is_overlapped-push s b h e ∙ ap (λ t. cond t (is_some (open_write b h)) (is_overlapped s b h || is_some (write_of b e))) other);
-}
+mark-beside s h e mark before other is opened overlapped = grind (arith, open_access-push, is_overlapped-push)
 
 -- what is recorded of an event
 pub record HasRecorded (before : Marks) (e : Event) (marks : Marks) : Type 0 where
@@ -265,17 +145,14 @@ pub record HasRecorded (before : Marks) (e : Event) (marks : Marks) : Type 0 whe
   pub other_overlapped : (b : Bit) → (side_mark (other e.side) before).opened ≡ Some (Read b) → (side_mark (other e.side) marks).overlapped ≡ ((side_mark (other e.side) before).overlapped || is_some (write_of b e))
 
 with_value-size : (values : List Bool) (b : Bit) (o : Option Bool) → length (with_value values b o) ≡ length values
-with_value-size values b None = refl
-with_value-size values b (Some v) = length-set values (table_place b) v
+with_value-size values b o = grind (arith, length-set)
 
 with_value-at : (values : List Bool) (c b : Bit) (o : Option Bool) → length values ≡ 4609 → IsInTable c → IsInTable b
     → get_or (with_value values c o) (table_place b) false ≡ cond (same_bit b c) (unwrap_or o (get_or values (table_place b) false)) (get_or values (table_place b) false)
-with_value-at values c b None size room there = sym (both (same_bit b c) (get_or values (table_place b) false))
-with_value-at values c b (Some v) size room there = set-values values c b v size room there
+with_value-at values c b o size room there = grind (arith, both, set-values)
 
 pub by_other : (s : Side) → same_side (other s) s ≡ false
-by_other P = refl
-by_other C = refl
+by_other s = grind arith
 
 module _ (shape : Shape) (h : List Event) (e : Event) (before marks : Marks) (are : AreMarks shape h before) (follows : MayFollow shape h e) (kept : HasRecorded before e marks) where
   room : IsInTable e.bit
@@ -288,10 +165,7 @@ module _ (shape : Shape) (h : List Event) (e : Event) (before marks : Marks) (ar
   other_mark = mark-beside (other e.side) h e (side_mark (other e.side) marks) (side_mark (other e.side) before) (by_other e.side) (are.sides (other e.side)) kept.other_opened kept.other_overlapped
 
   each_mark : (s t : Side) → IsMark s (h ++ e ∷ []) (side_mark s marks) → IsMark (other s) (h ++ e ∷ []) (side_mark (other s) marks) → IsMark t (h ++ e ∷ []) (side_mark t marks)
-  each_mark P P own beside = own
-  each_mark P C own beside = beside
-  each_mark C P own beside = beside
-  each_mark C C own beside = own
+  each_mark s t own beside = grind arith
 
   pub AreMarks-push : AreMarks shape (h ++ e ∷ []) marks
   AreMarks-push = record {
@@ -312,20 +186,16 @@ module _ (shape : Shape) (h : List Event) (e : Event) (before marks : Marks) (ar
 -- ---- what each act changes
 
 with_mark-own : (marks : Marks) (s : Side) (mark : SideMark) → length marks.sides ≡ 2 → side_mark s (with_mark marks s mark) ≡ mark
-with_mark-own marks P mark seats = get_or-set_same marks.sides 0 mark idle (omega (arith, seats))
-with_mark-own marks C mark seats = get_or-set_same marks.sides 1 mark idle (omega (arith, seats))
+with_mark-own marks s mark seats = grind (arith, get_or-set_same)
 
 with_mark-other : (marks : Marks) (s : Side) (mark : SideMark) → side_mark (other s) (with_mark marks s mark) ≡ side_mark (other s) marks
-with_mark-other marks P mark = get_or-set_other marks.sides 0 1 mark idle (λ e. omega arith)
-with_mark-other marks C mark = get_or-set_other marks.sides 1 0 mark idle (λ e. omega arith)
+with_mark-other marks s mark = grind (arith, get_or-set_other)
 
 is_some_if : (t v : Bool) → t ≡ is_some (cond t (Some v) None)
-is_some_if true v = refl
-is_some_if false v = refl
+is_some_if t v = grind arith
 
 or_none : (x : Bool) → x ≡ (x || false)
-or_none true = refl
-or_none false = refl
+or_none x = grind arith
 
 module _ (before : Marks) (s : Side) (b : Bit) (seats : length before.sides ≡ 2) where
   -- only the side's own mark changes with an act that begins no write
@@ -342,8 +212,7 @@ module _ (before : Marks) (s : Side) (b : Bit) (seats : length before.sides ≡ 
         own_opened = ap (λ m. m.opened) own ∙ opened;
         own_overlapped = λ c reads. ap (λ m. m.overlapped) own ∙ overlapped c reads;
         other_opened = ap (λ m. m.opened) other_one;
-        other_overlapped = λ c reads.
-            ap (λ m. m.overlapped) other_one ∙ or_none (side_mark (other s) before).overlapped ∙ ap (λ o. (side_mark (other s) before).overlapped || is_some o) (sym (none c));
+        other_overlapped = λ c reads. grind (arith, or_none);
       }
 
   pub reads : (overlapped : Bool) → overlapped ≡ is_some (value_written b (side_mark (writer b) before).opened)
@@ -364,16 +233,7 @@ module _ (before : Marks) (s : Side) (b : Bit) (seats : length before.sides ≡ 
       let size : length middle.sides ≡ 2 = length-set before.sides (seat_of (other s)) reader_mark ∙ seats in
       let own = with_mark-own middle s mark size in
       let other_one : side_mark (other s) (with_mark middle s mark) ≡ reader_mark = with_mark-other middle s mark ∙ with_mark-own before (other s) reader_mark seats in
-      record {
-        seats_are = length-set middle.sides (seat_of s) mark ∙ size;
-        values_are = refl;
-        own_opened = ap (λ m. m.opened) own;
-        own_overlapped = λ c reads. cc;
-        other_opened = ap (λ m. m.opened) other_one;
-        other_overlapped = λ c reads.
-            ap (λ m. m.overlapped) other_one ∙ ap (λ (o : Option Access). (side_mark (other s) before).overlapped || is_read_of b o) reads
-            ∙ ap (λ t. (side_mark (other s) before).overlapped || t) (is_some_if (same_bit c b) v);
-      }
+      grind (arith, length-set, reads, is_some_if)
 
   pub wrote : HasRecorded before (record { side = s; bit = b; act = WriteEnd })
       (with_mark (record before { values = with_value before.values b (value_ended WriteEnd (side_mark s before).opened) }) s idle)

@@ -1,5 +1,5 @@
 -- A side's own events in a history, and their places.
-use Rattle.std.proofs.Common.{◌≡◌, ◌⊎◌, inl, inr, ℕ, zero, suc, ◌+◌, ◌<◌, ◌≤◌, Bool, true, false, cond, Some, List, [], ◌∷◌, ◌++◌, length, take, drop, refl, ap, sym, ◌∙◌, arith, append-nil}
+use Rattle.std.proofs.Common.{◌≡◌, ◌⊎◌, inl, inr, ℕ, zero, suc, ◌+◌, ◌<◌, ◌≤◌, Bool, true, false, Some, List, ◌∷◌, ◌++◌, length, take, drop, refl, ap, sym, arith, append-nil, []}
 use Rattle.std.specs.Prelude.{slice_get, if◌then◌else◌}
 use Rattle.std.proofs.lemmas.List.Elements.{filter-append}
 use Rattle.bits_core.specs.declared.events.Side.{Side}
@@ -12,13 +12,10 @@ use Rattle.bits_core.proofs.Statements.{SubhistoryHasPlace, SubhistoryHasOnePlac
 
 -- case analysis of a test, keeping its result
 pub by_case : {G : Type 0} → (b : Bool) → (b ≡ true → G) → (b ≡ false → G) → G
-by_case true if_true if_false = if_true refl
-by_case false if_true if_false = if_false refl
+by_case b if_true if_false = grind arith
 
 pub subhistory_changes : SubhistoryChanges
-subhistory_changes s h e =
-    filter-append (is_by s) h (e ∷ [])
-    ∙ elim (is_by s e) as (λ t. subhistory s h ++ cond t (e ∷ []) [] ≡ (if t then subhistory s h ++ e ∷ [] else subhistory s h)) [ true ↦ refl | false ↦ append-nil (subhistory s h) ]
+subhistory_changes s h e = grind (arith, filter-append, append-nil)
 
 -- a side's own events in two histories, one after the other
 pub subhistory-append : (s : Side) (h more : List Event) → subhistory s (h ++ more) ≡ subhistory s h ++ subhistory s more
@@ -42,25 +39,14 @@ pub clock_rises : (s : Side) (h : List Event) (a b : ℕ) → a ≤ b → clock 
 clock_rises s h zero b le = omega arith
 clock_rises s h (suc a) zero le = absurd (omega arith)
 clock_rises s [] (suc a) (suc b) le = omega arith
-clock_rises s (e ∷ h) (suc a) (suc b) le =
-    by_case (is_by s e)
-    (λ by. omega (arith, clock-yes s e h a by, clock-yes s e h b by, clock_rises s h a b (omega arith)))
-    (λ by. omega (arith, clock-no s e h a by, clock-no s e h b by, clock_rises s h a b (omega arith)))
+clock_rises s (e ∷ h) (suc a) (suc b) le = grind (arith, by_case, clock-yes, clock-no, clock_rises s h a b (omega arith))
 
 -- a place among the events after a first one
 behind_own : (s : Side) (e : Event) (h : List Event) (i place : ℕ) → is_by s e ≡ true → IsPlaceOf s h i place → IsPlaceOf s (e ∷ h) (suc i) (suc place)
-behind_own s e h i place by p = record {
-  at_place = p.at_place ∙ ap (λ l. slice_get l (suc i)) (sym (own-yes s e h by));
-  before = clock-yes s e h place by ∙ ap suc p.before;
-  past = clock-yes s e h (suc place) by ∙ ap suc p.past;
-}
+behind_own s e h i place by p = grind (arith, own-yes, clock-yes)
 
 behind_other : (s : Side) (e : Event) (h : List Event) (i place : ℕ) → is_by s e ≡ false → IsPlaceOf s h i place → IsPlaceOf s (e ∷ h) i (suc place)
-behind_other s e h i place by p = record {
-  at_place = p.at_place ∙ ap (λ l. slice_get l i) (sym (own-no s e h by));
-  before = clock-no s e h place by ∙ p.before;
-  past = clock-no s e h (suc place) by ∙ p.past;
-}
+behind_other s e h i place by p = grind (arith, own-no, clock-no)
 
 pub subhistory_has_place : SubhistoryHasPlace
 subhistory_has_place s [] i within = absurd (omega arith)
@@ -77,10 +63,7 @@ pub clock_within : (s : Side) (h : List Event) (t : ℕ) → clock s h t ≤ len
 clock_within s [] zero = omega arith
 clock_within s [] (suc t) = omega arith
 clock_within s (e ∷ h) zero = omega (arith, clock_rises s (e ∷ h) 0 0)
-clock_within s (e ∷ h) (suc t) =
-    by_case (is_by s e)
-    (λ by. omega (arith, clock-yes s e h t by, ap length (own-yes s e h by), clock_within s h t))
-    (λ by. omega (arith, clock-no s e h t by, ap length (own-no s e h by), clock_within s h t))
+clock_within s (e ∷ h) (suc t) = grind (arith, by_case, clock-yes, own-yes, clock-no, own-no, clock_within s h t)
 
 pub subhistory_has_one_place : SubhistoryHasOnePlace
 subhistory_has_one_place s h i place p =
@@ -119,21 +102,8 @@ pub record IsOwn (s : Side) (h : List Event) (place : ℕ) (e : Event) : Type 0 
 
 pub own_at : (s : Side) (h : List Event) (place : ℕ) (e : Event) → slice_get h place ≡ Some e → is_by s e ≡ true → IsOwn s h place e
 own_at s [] place e at by = cc
-own_at s (x ∷ h) zero e at by =
-    let same : x ≡ e = cc in
-    let same_by : is_by s x ≡ true = ap (is_by s) same ∙ by in
-    record { own_event = ap (λ l. slice_get l 0) (own-yes s x h same_by) ∙ at; tick = clock-yes s x h 0 same_by }
-own_at s (x ∷ h) (suc place) e at by =
-    let r : IsOwn s h place e = own_at s h place e at by in
-    by_case (is_by s x)
-    (λ q. record {
-      own_event = rw (clock-yes s x h place q, own-yes s x h q) r.own_event;
-      tick = clock-yes s x h (suc place) q ∙ ap suc r.tick ∙ ap suc (sym (clock-yes s x h place q));
-    })
-    (λ q. record {
-      own_event = rw (clock-no s x h place q, own-no s x h q) r.own_event;
-      tick = clock-no s x h (suc place) q ∙ r.tick ∙ ap suc (sym (clock-no s x h place q));
-    })
+own_at s (x ∷ h) zero e at by = grind (arith, own-yes, clock-yes)
+own_at s (x ∷ h) (suc place) e at by = grind (arith, by_case, clock-yes, own-yes, clock-no, own-no, own_at s h place e at by)
 
 -- one of a side's own events comes before a place exactly when its number is below the clock there
 pub clock_counts_places : ClockCountsPlaces

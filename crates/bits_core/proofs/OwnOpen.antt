@@ -1,16 +1,15 @@
 -- What is open, event by event: from a side's own events, after complete accesses, and while nothing overlaps.
-use Rattle.std.proofs.Common.{◌≡◌, Bool, true, false, ◌||◌, Option, Some, None, List, [], ◌∷◌, ◌++◌, refl, ap, sym, subst, ◌∙◌, append-nil, append_assoc}
+use Rattle.std.proofs.Common.{◌≡◌, Bool, true, false, ◌||◌, Option, None, List, ◌∷◌, ◌++◌, refl, ap, sym, subst, ◌∙◌, append-nil, append_assoc, arith, []}
 use Rattle.std.specs.Prelude.{is_some, unwrap_or, if◌then◌else◌}
 use Rattle.std.proofs.lemmas.Bool.{or_parts, false≢true}
 use Rattle.bits_core.specs.declared.events.Side.{Side}
-use Rattle.bits_core.specs.declared.events.Side.TheVariants.{P, C}
 use Rattle.bits_core.specs.declared.events.Bit.{Bit}
 use Rattle.bits_core.specs.declared.events.Event.{Event}
 use Rattle.bits_core.specs.declared.shapes.Shape.{Shape}
-use Rattle.bits_core.specs.Bits.{other, writer, reader, same_side, is_by, begun_by, write_of}
+use Rattle.bits_core.specs.Bits.{writer, reader, same_side, is_by, begun_by, write_of}
 use Rattle.bits_core.specs.History.{before_last, open_access, open_write, held, is_overlapped}
 use Rattle.bits_core.specs.Lawful.{IsLawful}
-use Rattle.bits_core.specs.Made.{Made, Read, Write, begin_event, end_event, events_of, subhistory}
+use Rattle.bits_core.specs.Made.{Made, begin_event, end_event, events_of, subhistory}
 use Rattle.bits_core.specs.Laws.{OpenFromOwn, MadeLeaveNoneOpen}
 use Rattle.bits_core.proofs.Statements.{QuietIsHeld}
 use Rattle.bits_core.proofs.Histories.{before_last-push, open_access-push}
@@ -43,17 +42,14 @@ open_from_own s = by_events (λ h. open_access s h ≡ open_access s (subhistory
 
 -- complete accesses
 pub by_end : (s : Side) (x : Made) → is_by s (end_event s x) ≡ true
-by_end s (Read b v) = same_side-same s
-by_end s (Write b v) = same_side-same s
+by_end s x = grind (arith, same_side-same)
 
 none_behind : (s : Side) (before : List Event) (made : List Made) → open_access s before ≡ None → open_access s (before ++ events_of s made) ≡ None
 none_behind s before [] is = ap (open_access s) (append-nil before) ∙ is
 none_behind s before (x ∷ made) is =
     let begun : List Event = before ++ begin_event s x ∷ [] in
-    let none : open_access s (begun ++ end_event s x ∷ []) ≡ None =
-    open_access-push s begun (end_event s x) ∙ pick (is_by s (end_event s x)) true (begun_by (end_event s x)) (open_access s begun) (by_end s x) ∙ begun_end s x in
-    ap (open_access s) (sym (append_assoc begun (end_event s x ∷ []) (events_of s made) ∙ append_assoc before (begin_event s x ∷ []) (end_event s x ∷ events_of s made)))
-    ∙ none_behind s (begun ++ end_event s x ∷ []) made none
+    let none : open_access s (begun ++ end_event s x ∷ []) ≡ None = grind (arith, open_access-push, pick, by_end, begun_end) in
+    grind (arith, append_assoc, none_behind s (begun ++ end_event s x ∷ []) made none)
 
 pub made_leave_none_open : MadeLeaveNoneOpen
 made_leave_none_open s made = none_behind s [] made refl
@@ -61,21 +57,13 @@ made_leave_none_open s made = none_behind s [] made refl
 -- ---- while nothing overlaps
 
 pub not_open : {A : Type 0} → (o : Option A) → is_some o ≡ false → o ≡ None
-not_open None e = refl
-not_open (Some v) e = absurd (false≢true (sym e))
+not_open o e = grind (arith, false≢true)
 
 reads_not : (b : Bit) (s : Side) → s ≡ reader b → same_side (writer b) s ≡ false
-reads_not b s is = ap (same_side (writer b)) is ∙ go (writer b)
-  where
-    go : (y : Side) → same_side y (other y) ≡ false
-    go P = refl
-    go C = refl
+reads_not b s is = grind arith
 
 pub same_true : (x y : Side) → same_side x y ≡ true → x ≡ y
-same_true P P e = refl
-same_true P C e = absurd (false≢true e)
-same_true C P e = absurd (false≢true e)
-same_true C C e = refl
+same_true x y e = grind (arith, false≢true)
 
 abbrev Quiet : Side → Bit → List Event → Type 0
 Quiet s b h = is_overlapped s b h ≡ false → (open_write b h ≡ None) × (open_write b (before_last s h) ≡ None) × (held b h ≡ held b (before_last s h))

@@ -1,5 +1,5 @@
 -- Positions of a list's elements, in parts of the list and in lists that it is part of.
-use Rattle.std.proofs.Common.{◌≡◌, ℕ, zero, suc, ◌⊎◌, inl, inr, Some, List, [], ◌∷◌, ◌++◌, ◌+◌, ◌<◌, length, take, drop, refl, ap, sym, ◌∙◌, arith, ◌≤◌, length-append}
+use Rattle.std.proofs.Common.{◌≡◌, ℕ, zero, suc, ◌⊎◌, inl, Some, List, ◌∷◌, ◌++◌, ◌+◌, ◌<◌, length, take, drop, refl, ap, sym, ◌∙◌, arith, ◌≤◌, length-append, []}
 use Rattle.std.specs.Prelude.{slice_get}
 use Rattle.std.proofs.lemmas.Option.{none-some}
 use Rattle.bits_core.specs.Made.{IsPrefix}
@@ -20,11 +20,9 @@ slice_get-last [] e = refl
 slice_get-last (x ∷ xs) e = slice_get-last xs e
 
 pub slice_get-push_cases : {A : Type 0} (xs : List A) (e : A) (p : ℕ) (f : A) → slice_get (xs ++ e ∷ []) p ≡ Some f → (slice_get xs p ≡ Some f) ⊎ ((p ≡ length xs) × (e ≡ f))
-slice_get-push_cases [] e zero f at = inr (refl, cc)
-slice_get-push_cases [] e (suc p) f at = inl at
+slice_get-push_cases [] e p f at = grind arith
 slice_get-push_cases (x ∷ xs) e zero f at = inl at
-slice_get-push_cases (x ∷ xs) e (suc p) f at =
-    elim (slice_get-push_cases xs e p f at) [ inl q ↦ inl q | inr q ↦ inr (ap suc q.0, q.1) ]
+slice_get-push_cases (x ∷ xs) e (suc p) f at = grind (arith, slice_get-push_cases xs e p f at)
 
 -- a prefix is no longer than the whole
 pub prefix_no_longer : {A : Type 0} (xs ys : List A) → IsPrefix xs ys → length xs ≤ length ys

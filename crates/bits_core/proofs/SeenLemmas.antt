@@ -1,5 +1,5 @@
 -- What is seen at each event so far, with one more event.
-use Rattle.std.proofs.Common.{◌≡◌, ◌≢◌, ℕ, zero, suc, ◌+◌, ◌<◌, ◌≤◌, Some, List, [], ◌∷◌, take, refl, ap, sym, subst, ◌∙◌, arith, inl, inr}
+use Rattle.std.proofs.Common.{◌≡◌, ◌≢◌, ℕ, zero, suc, ◌+◌, ◌<◌, ◌≤◌, Some, List, ◌∷◌, take, refl, ap, sym, subst, ◌∙◌, arith, inl, inr, []}
 use Rattle.std.proofs.Math.ListN.{set}
 use Rattle.std.specs.Prelude.{slice_get}
 use Rattle.std.proofs.lemmas.Bool.{cases_lt}
@@ -18,8 +18,7 @@ set_here (x ∷ xs) (suc i) y z e = set_here xs i y z e
 -- and the others are unchanged
 set_elsewhere : {X : Type 0} (xs : List X) (i j : ℕ) (y : X) → j ≢ i → slice_get (set xs i y) j ≡ slice_get xs j
 set_elsewhere [] i j y apart = refl
-set_elsewhere (x ∷ xs) zero zero y apart = absurd (apart refl)
-set_elsewhere (x ∷ xs) zero (suc j) y apart = refl
+set_elsewhere (x ∷ xs) zero j y apart = grind arith
 set_elsewhere (x ∷ xs) (suc i) zero y apart = refl
 set_elsewhere (x ∷ xs) (suc i) (suc j) y apart = set_elsewhere xs i j y (λ e. apart (ap suc e))
 

@@ -5,7 +5,7 @@ use Rattle.std.proofs.lemmas.Bool.{cases_lt}
 use mathlib.Core.HLevel.{is_prop→PathP}
 use Rattle.bits_core.specs.declared.shapes.Shape.{Shape}
 use Rattle.bits_core.specs.declared.faults.ShapeFault.{ShapeFault}
-use Rattle.bits_core.specs.declared.faults.ShapeFault.TheVariants.{Capacity, Modulus, Width, Batch, TakeBatch, ModulusOfBatches}
+use Rattle.bits_core.specs.declared.faults.ShapeFault.TheVariants.{Capacity, Width, Batch, TakeBatch}
 use Rattle.bits_core.specs.Shape.{AreBatchSizes, HasBatches, IsModulusForBoth, IsRefusedBatches, batch_of, capacity_of, modulus_of, take_batch_of, width_of}
 
 -- shapes of the same numbers are equal
@@ -31,59 +31,13 @@ same_shape s t c m w b h = λ i. record {
 
 -- the numbers of a shape are not refused, and numbers are refused for one reason only
 pub not_refused : (s : Shape) (fault : ShapeFault) → ¬ IsRefusedBatches (capacity_of s) (modulus_of s) (width_of s) (batch_of s) (take_batch_of s) fault
-not_refused s Capacity refused = refused (s.has_cells, s.few_cells)
-not_refused s Batch refused = refused.1 (s.has_batch, s.small_batch)
-not_refused s TakeBatch refused = refused.2 (s.has_take_batch, s.small_take_batch)
-not_refused s Modulus refused = refused.2 ((s.room_to_count, s.small_modulus), (s.room_to_take, s.small_modulus))
-not_refused s ModulusOfBatches refused = refused.2 ((s.room_to_count, s.small_modulus), (s.room_to_take, s.small_modulus))
-not_refused s Width refused = refused.2 (s.has_digits, s.few_digits)
+not_refused s fault refused = grind arith
 
 pub one_refusal : (c m w g h : ℕ) (e f : ShapeFault) → IsRefusedBatches c m w g h e → IsRefusedBatches c m w g h f → e ≡ f
-one_refusal c m w g h Capacity Capacity a b = refl
-one_refusal c m w g h Capacity Batch a b = absurd (a b.0)
-one_refusal c m w g h Capacity TakeBatch a b = absurd (a b.0)
-one_refusal c m w g h Capacity Modulus a b = absurd (a b.0.0)
-one_refusal c m w g h Capacity ModulusOfBatches a b = absurd (a b.0.0)
-one_refusal c m w g h Capacity Width a b = absurd (a b.0.0)
-one_refusal c m w g h Batch Capacity a b = absurd (b a.0)
-one_refusal c m w g h Batch Batch a b = refl
-one_refusal c m w g h Batch TakeBatch a b = absurd (a.1 b.1)
-one_refusal c m w g h Batch Modulus a b = absurd (a.1 b.0.1)
-one_refusal c m w g h Batch ModulusOfBatches a b = absurd (a.1 b.0.1)
-one_refusal c m w g h Batch Width a b = absurd (a.1 b.0.1)
-one_refusal c m w g h TakeBatch Capacity a b = absurd (b a.0)
-one_refusal c m w g h TakeBatch Batch a b = absurd (b.1 a.1)
-one_refusal c m w g h TakeBatch TakeBatch a b = refl
-one_refusal c m w g h TakeBatch Modulus a b = absurd (a.2 b.0.2)
-one_refusal c m w g h TakeBatch ModulusOfBatches a b = absurd (a.2 b.0.2)
-one_refusal c m w g h TakeBatch Width a b = absurd (a.2 b.0.2)
-one_refusal c m w g h Modulus Capacity a b = absurd (b a.0.0)
-one_refusal c m w g h Modulus Batch a b = absurd (b.1 a.0.1)
-one_refusal c m w g h Modulus TakeBatch a b = absurd (b.2 a.0.2)
-one_refusal c m w g h Modulus Modulus a b = refl
-one_refusal c m w g h Modulus ModulusOfBatches a b = absurd (omega (arith, a.1, b.1))
-one_refusal c m w g h Modulus Width a b = absurd (a.2 b.1)
-one_refusal c m w g h ModulusOfBatches Capacity a b = absurd (b a.0.0)
-one_refusal c m w g h ModulusOfBatches Batch a b = absurd (b.1 a.0.1)
-one_refusal c m w g h ModulusOfBatches TakeBatch a b = absurd (b.2 a.0.2)
-one_refusal c m w g h ModulusOfBatches Modulus a b = absurd (omega (arith, a.1, b.1))
-one_refusal c m w g h ModulusOfBatches ModulusOfBatches a b = refl
-one_refusal c m w g h ModulusOfBatches Width a b = absurd (a.2 b.1)
-one_refusal c m w g h Width Capacity a b = absurd (b a.0.0)
-one_refusal c m w g h Width Batch a b = absurd (b.1 a.0.1)
-one_refusal c m w g h Width TakeBatch a b = absurd (b.2 a.0.2)
-one_refusal c m w g h Width Modulus a b = absurd (b.2 a.1)
-one_refusal c m w g h Width ModulusOfBatches a b = absurd (b.2 a.1)
-one_refusal c m w g h Width Width a b = refl
+one_refusal c m w g h e f a b = grind arith
 
 in_range : (low n high : ℕ) → ((low < n) × (n ≤ high)) ⊎ ¬ ((low < n) × (n ≤ high))
-in_range low n high = elim (cases_lt low n) [
-  | inl above ↦ elim (cases_lt high n) [
-    | inl beyond ↦ inr (λ r. omega (arith, beyond, r.1))
-    | inr below ↦ inl (above, below)
-  ]
-  | inr small ↦ inr (λ r. omega (arith, small, r.0))
-]
+in_range low n high = grind (arith, cases_lt)
 
 -- five numbers make a shape, or are refused
 abbrev pub ShapeTold : ℕ → ℕ → ℕ → ℕ → ℕ → Type 0
@@ -91,10 +45,7 @@ ShapeTold c m w g h = ((shape : Shape) × HasBatches c m w g h shape) ⊎ ((faul
 
 -- a modulus that is out of its range is reported under the name that depends on the take batch
 bad_modulus : (c m w g h : ℕ) → AreBatchSizes c g h → ¬ IsModulusForBoth c g h m → ShapeTold c m w g h
-bad_modulus c m w g h sizes out = elim (cases_lt 1 h) [
-  | inl over ↦ inr (ModulusOfBatches, (sizes, over, out))
-  | inr single ↦ inr (Modulus, (sizes, (omega (arith, single, sizes.2.0)), out))
-]
+bad_modulus c m w g h sizes out = grind (arith, cases_lt 1 h)
 
 pub shape_told : (c m w g h : ℕ) → ShapeTold c m w g h
 shape_told c m w g h = elim (in_range 0 c 64) [

@@ -1,5 +1,5 @@
 -- What proofs above say of a history with one more event, and of the places of a side's own events.
-use Rattle.std.specs.Prelude.{◌≡◌, ℕ, ◌*◌, ◌<◌, ◌↔◌, false, Some, None, List, [], ◌∷◌, ◌++◌, length, take, slice_get, if◌then◌else◌, unwrap_or}
+use Rattle.std.specs.Prelude.{◌≡◌, ℕ, suc, ◌*◌, ◌<◌, ◌↔◌, false, Some, None, List, ◌∷◌, ◌++◌, length, take, slice_get, if◌then◌else◌, unwrap_or, []}
 use Rattle.bits_core.specs.declared.events.Side.{Side}
 use Rattle.bits_core.specs.declared.events.Bit.{Bit}
 use Rattle.bits_core.specs.declared.events.Access.{Access}
@@ -7,15 +7,11 @@ use Rattle.bits_core.specs.declared.events.Event.{Event}
 use Rattle.bits_core.specs.declared.faults.Kind.{Kind}
 use Rattle.bits_core.specs.declared.shapes.Shape.{Shape}
 use Rattle.bits_core.specs.Audit.{IsFaultAfter, IsFirstFault}
-use Rattle.bits_core.specs.Bits.{reader, writer, is_by, write_of}
+use Rattle.bits_core.specs.Bits.{reader, writer, is_by}
 use Rattle.bits_core.specs.History.{before_last, open_write, held, held_at_begin, is_overlapped}
 use Rattle.bits_core.specs.Intervals.{IsAccess}
 use Rattle.bits_core.specs.Lawful.{IsLawful}
-use Rattle.bits_core.specs.Made.{Made, access_of, events_of, IsPrefix, subhistory, clock, place_of, IsPlaceOf, IsMadeAt}
-
--- how what the events so far say changes with one more event
-abbrev pub OpenWriteChanges : Type 0
-OpenWriteChanges = (b : Bit) (h : List Event) (e : Event) → open_write b (h ++ e ∷ []) ≡ (if is_by (writer b) e then write_of b e else open_write b h)
+use Rattle.bits_core.specs.Made.{Made, access_of, events_of, IsPrefix, subhistory, clock, place_of, IsPlaceOf, end_event}
 
 abbrev pub HeldChanges : Type 0
 HeldChanges = (shape : Shape) (b : Bit) (h : List Event) (e : Event) → IsLawful shape h → held b (h ++ e ∷ []) ≡ (if is_by (writer b) e then unwrap_or (open_write b h) (held b h) else held b h)
@@ -37,6 +33,12 @@ SubhistoryHasOnePlace = (s : Side) (h : List Event) (i place : ℕ) → IsPlaceO
 abbrev pub ClockCountsPlaces : Type 0
 ClockCountsPlaces = (s : Side) (h : List Event) (i place : ℕ) → i < length (subhistory s h) → (place_of s h i < place) ↔ (i < clock s h place)
 
+-- access number n of those that the side made: its place in the history, and its end if it has ended
+pub record IsMadeAt (s : Side) (h : List Event) (n : ℕ) (x : Made) (start stop : ℕ) : Type 0 where
+  pub access : IsAccess h s (access_of x) start stop
+  pub start_is : IsPlaceOf s h (2 * n) start
+  pub ended : suc (2 * n) < length (subhistory s h) → IsPlaceOf s h (suc (2 * n)) stop × (slice_get h stop ≡ Some (end_event s x))
+
 -- if a side's events are a prefix of the events of accesses that were made, each of these that began is an access of the history
 abbrev pub MadeIsAccess : Type 0
 MadeIsAccess =
@@ -50,10 +52,6 @@ AccessIsMade =
     (s : Side) (h : List Event) (made : List Made) → IsPrefix (subhistory s h) (events_of s made) →
     (access : Access) (start stop : ℕ) → IsAccess h s access start stop →
     (n : ℕ) × (x : Made) × (slice_get made n ≡ Some x) × (access_of x ≡ access) × IsMadeAt s h n x start stop
-
--- the events before a side's last event, with one more event
-abbrev pub BeforeLastChanges : Type 0
-BeforeLastChanges = (s : Side) (h : List Event) (e : Event) → before_last s (h ++ e ∷ []) ≡ (if is_by s e then h else before_last s h)
 
 -- while no write of a bit overlaps its reader's last access, no write of it is open, none was when the access began, and it
 -- holds what it held then

@@ -1,11 +1,16 @@
 -- One more event, and prefixes, of a history each of whose events may follow those before it.
-use Rattle.std.proofs.Common.{◌≡◌, ℕ, inl, inr, List, [], ◌∷◌, ◌++◌, ◌≤◌, length, take, drop, refl, sym, subst, arith}
+use Rattle.std.proofs.Common.{◌≡◌, ℕ, Some, inl, inr, List, ◌∷◌, ◌++◌, ◌≤◌, length, take, drop, refl, sym, subst, arith, []}
+use Rattle.std.specs.Prelude.{slice_get}
 use Rattle.std.proofs.lemmas.Option.{none-some, slice_get_within}
 use Rattle.std.proofs.lemmas.List.{take-append-le, take-append-drop, take_at}
 use Rattle.bits_core.specs.declared.events.Event.{Event}
 use Rattle.bits_core.specs.declared.shapes.Shape.{Shape}
-use Rattle.bits_core.specs.Steps.{EachMayFollow, MayFollow}
+use Rattle.bits_core.specs.Steps.{MayFollow}
 use Rattle.bits_core.proofs.Places.{slice_get-append, slice_get-last, slice_get-push_cases}
+
+-- each event may follow the events before it
+pub record EachMayFollow (shape : Shape) (h : List Event) : Type 0 where
+  pub each : (p : ℕ) (e : Event) → slice_get h p ≡ Some e → MayFollow shape (take p h) e
 
 -- the empty history is lawful
 pub EachMayFollow-empty : (shape : Shape) → EachMayFollow shape []
@@ -30,9 +35,7 @@ EachMayFollow-push shape h e lawful follows = record {
         | inl q ↦
             let below : p ≤ length h = omega (arith, slice_get_within h p f q) in
             subst (λ past. MayFollow shape past f) (sym (take-append-le p h (e ∷ []) below)) (lawful.each p f q)
-        | inr q ↦
-            let here : take p (h ++ e ∷ []) ≡ h = take_at h (e ∷ []) p (sym q.0) in
-            subst (λ past. MayFollow shape past f) (sym here) (subst (λ x. MayFollow shape h x) q.1 follows)
+        | inr q ↦ grind (arith, take_at)
       ];
 }
 

@@ -1,24 +1,16 @@
 -- A tape starts again at its end.
-use Rattle.std.proofs.Common.{◌≡◌, ℕ, ◌+◌, ◌<◌, Bool, true, false, List, [], ◌∷◌, length, refl, ap, sym, ◌∙◌, arith}
+use Rattle.std.proofs.Common.{◌≡◌, ℕ, ◌+◌, ◌<◌, Bool, false, List, length, ap, arith}
 use Rattle.std.specs.Prelude.{◌==◌, if◌then◌else◌, slice_index_or}
 use Rattle.std.proofs.lemmas.Bool.{eqb-true}
 use Rattle.std.proofs.Math.Nat.{add-mod_left, mod-eq_of_lt}
 use Rattle.bits_core.specs.Oracle.{turn}
 
 turn_again : (answers : List Bool) (i : ℕ) → turn answers (length answers + i) ≡ turn answers i
-turn_again [] i = refl
-turn_again (a ∷ answers) i = ap (λ (k : ℕ). slice_index_or (a ∷ answers) k false) (add-mod_left (length (a ∷ answers)) i)
+turn_again answers i = grind (arith, add-mod_left)
 
 -- the place of the next answer represents the tape's position
 pub turn_from : (answers : List Bool) (place next i : ℕ) → next ≡ (if place == length answers then 0 else place) → turn answers (next + i) ≡ turn answers (place + i)
-turn_from answers place next i is =
-    elim (place == length answers) as (λ t. (place == length answers) ≡ t → next ≡ (if t then 0 else place) → turn answers (next + i) ≡ turn answers (place + i)) [
-      | true ↦ λ at_end k.
-          let end : place ≡ length answers = eqb-true place (length answers) at_end in
-          let first : next + i ≡ i = omega arith in
-          ap (turn answers) first ∙ sym (turn_again answers i) ∙ ap (λ (p : ℕ). turn answers (p + i)) (sym end)
-      | false ↦ λ other k. ap (λ (p : ℕ). turn answers (p + i)) k
-    ] refl is
+turn_from answers place next i is = grind (arith, eqb-true, turn_again)
 
 -- below the end, the answer is the one at the place
 pub turn-within : (answers : List Bool) (i : ℕ) → i < length answers → turn answers i ≡ slice_index_or answers i false

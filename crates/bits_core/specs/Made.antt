@@ -1,5 +1,5 @@
 -- Accesses that were made, with what the reads answered, and a side's own events in a history.
-use Rattle.std.specs.Prelude.{◌≡◌, ℕ, zero, suc, ◌*◌, ◌<◌, Bool, Some, List, [], ◌∷◌, ◌++◌, length, take, filter, slice_get, if◌then◌else◌}
+use Rattle.std.specs.Prelude.{◌≡◌, ℕ, zero, suc, Bool, List, [], ◌∷◌, ◌++◌, length, take, filter, slice_get, if◌then◌else◌}
 use Rattle.bits_core.specs.declared.events.Side.{Side}
 use Rattle.bits_core.specs.declared.events.Bit.{Bit}
 use Rattle.bits_core.specs.declared.events.Act.TheVariants.{ReadBegin, ReadEnd, WriteBegin, WriteEnd}
@@ -7,7 +7,6 @@ use Rattle.bits_core.specs.declared.events.Access.{Access}
 use Rattle.bits_core.specs.declared.events.Access.TheVariants as access
 use Rattle.bits_core.specs.declared.events.Event.{Event}
 use Rattle.bits_core.specs.Bits.{is_by}
-use Rattle.bits_core.specs.Intervals.{IsAccess}
 
 -- an access that was made: a read with its answer, or a write with its value
 pub data Made : Type 0 where
@@ -67,9 +66,3 @@ pub record IsPlaceOf (s : Side) (h : List Event) (i place : ℕ) : Type 0 where
   pub at_place : slice_get h place ≡ slice_get (subhistory s h) i
   pub before : clock s h place ≡ i
   pub past : clock s h (suc place) ≡ suc i
-
--- access number n of those that the side made: its place in the history, and its end if it has ended
-pub record IsMadeAt (s : Side) (h : List Event) (n : ℕ) (x : Made) (start stop : ℕ) : Type 0 where
-  pub access : IsAccess h s (access_of x) start stop
-  pub start_is : IsPlaceOf s h (2 * n) start
-  pub ended : suc (2 * n) < length (subhistory s h) → IsPlaceOf s h (suc (2 * n)) stop × (slice_get h stop ≡ Some (end_event s x))

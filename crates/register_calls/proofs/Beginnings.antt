@@ -1,6 +1,6 @@
 -- A history and a prefix of it; and the read that a reader has under way.
-use Rattle.std.proofs.Common.{◌≡◌, inl, inr, ℕ, suc, ◌≤◌, ◌<◌, Bool, true, false, Option, Some, List, [], ◌∷◌, length, refl, ap, sym, subst, ◌∙◌, arith}
-use Rattle.std.specs.Prelude.{◌==◌, if◌then◌else◌}
+use Rattle.std.proofs.Common.{◌≡◌, inl, inr, ℕ, suc, ◌≤◌, ◌<◌, Bool, true, false, Some, List, [], ◌∷◌, length, refl, ap, sym, subst, ◌∙◌, arith}
+use Rattle.std.specs.Prelude.{if◌then◌else◌}
 use Rattle.std.proofs.lemmas.Bool.{cases_lt}
 use Rattle.std.proofs.lemmas.Bool.Decides.{eqb_tells}
 use Rattle.register_calls.specs.declared.events.Register.{Register}
@@ -28,15 +28,11 @@ beginning_in s b (e ∷ c) is (inr that) = inr (beginning_in s b c is that)
 
 -- the events before a reader's last read are a prefix
 beginning_one : (t : Bool) (h s : List RegisterEvent) → IsBeginning s h → IsBeginning (if t then h else s) h
-beginning_one true h s is = beginning_all h
-beginning_one false h s is = is
+beginning_one t h s h1 = grind (arith, beginning_all)
 
 pub before_read-beginning : (i : ℕ) (h : List RegisterEvent) → IsBeginning (before_read i h) h
 before_read-beginning i [] = refl
-before_read-beginning i (WriteBegins v ∷ b) = inr (before_read-beginning i b)
-before_read-beginning i (WriteEnds ∷ b) = inr (before_read-beginning i b)
-before_read-beginning i (ReadBegins j ∷ b) = inr (beginning_one (i == j) b (before_read i b) (before_read-beginning i b))
-before_read-beginning i (ReadEnds j v ∷ b) = inr (before_read-beginning i b)
+before_read-beginning i (e ∷ b) = grind (arith, beginning_one, (before_read-beginning i b))
 
 -- what a history has of such a prefix
 module _ (s : List RegisterEvent) where
@@ -103,17 +99,7 @@ pub record Began (i : ℕ) (h : List RegisterEvent) (start : ℕ) : Type 0 where
 
 -- one more event, which is not the reader's
 began_still : (i : ℕ) (e : RegisterEvent) (b : List RegisterEvent) (start : ℕ) → ¬ IsOfReader i (Some e) → Began i b start → Began i (e ∷ b) start
-began_still i e b start other began = record {
-  begins = placed_event-before e b start began.within ∙ began.begins;
-  within = (let k = began.within in omega (arith, k));
-  none = none;
-}
-  where
-    none : (p : ℕ) → start < p → p < suc (length b) → ¬ IsOfReader i (placed_event (e ∷ b) p)
-    none p after before of = elim (cases_lt p (length b)) [
-      | inl early ↦ began.none p after early (subst (λ (o : Option RegisterEvent). IsOfReader i o) (placed_event-before e b p early) of)
-      | inr late ↦ (let same : p ≡ length b = omega arith in other (subst (λ (o : Option RegisterEvent). IsOfReader i o) (ap (placed_event (e ∷ b)) same ∙ placed_event-here e b) of))
-    ]
+began_still i e b start other began = grind arith
 
 pub reading_began : (i : ℕ) (h : List RegisterEvent) → has_read_open i h ≡ true → Began i h (length (before_read i h))
 reading_began i [] is = absurd cc
@@ -138,44 +124,18 @@ reading_began i (ReadEnds j v ∷ b) is = elim (eqb_tells i j) [
 
 -- the event that ends it makes a read of it, from there
 pub read_there : (i v : ℕ) (b : List RegisterEvent) (start : ℕ) → Began i b start → IsReadFrom (ReadEnds i v ∷ b) i start (length b) v
-read_there i v b start began = record {
-  begins = placed_event-before (ReadEnds i v) b start began.within ∙ began.begins;
-  ends = placed_event-here (ReadEnds i v) b;
-  later = began.within;
-  none = (λ p after before of. began.none p after before (subst (λ (o : Option RegisterEvent). IsOfReader i o) (placed_event-before (ReadEnds i v) b p before) of));
-}
+read_there i v b start began = grind arith
 
 -- and from no other place
 pub one_start : (i v : ℕ) (e : RegisterEvent) (b : List RegisterEvent) (start other : ℕ) → Began i b start → IsReadFrom (e ∷ b) i other (length b) v → other ≡ start
-one_start i v e b start other began is =
-    let mine : placed_event b other ≡ Some (ReadBegins i) = sym (placed_event-before e b other is.later) ∙ is.begins in
-    elim (cases_lt other start) [
-      | inl lt ↦
-          absurd (is.none start lt began.within (subst (λ (o : Option RegisterEvent). IsOfReader i o) (sym (placed_event-before e b start began.within ∙ began.begins)) refl))
-      | inr ge ↦ elim (cases_lt start other) [
-        | inl lt ↦ absurd (began.none other lt is.later (subst (λ (o : Option RegisterEvent). IsOfReader i o) (sym mine) refl))
-        | inr le ↦ omega arith
-      ]
-    ]
+one_start i v e b start other began is = grind (arith, cases_lt, placed_event-before)
 
 -- a read of a history is one of the history with one more event, and vice versa
 pub read_still : (i start stop v : ℕ) (e : RegisterEvent) (b : List RegisterEvent) → IsReadFrom b i start stop v → IsReadFrom (e ∷ b) i start stop v
-read_still i start stop v e b is =
-    let within = placed_event-within b stop (ReadEnds i v) is.ends in
-    record {
-      begins = placed_event-before e b start (let k = is.later in omega (arith, k, within)) ∙ is.begins;
-      ends = placed_event-before e b stop within ∙ is.ends;
-      later = is.later;
-      none = (λ p after before of. is.none p after before (subst (λ (o : Option RegisterEvent). IsOfReader i o) (placed_event-before e b p (omega (arith, before, within))) of));
-    }
+read_still i start stop v e b is = grind (arith, placed_event-before, placed_event-within)
 
 pub read_before : (i start stop v : ℕ) (e : RegisterEvent) (b : List RegisterEvent) → stop < length b → IsReadFrom (e ∷ b) i start stop v → IsReadFrom b i start stop v
-read_before i start stop v e b within is = record {
-  begins = sym (placed_event-before e b start (let k = is.later in omega (arith, k, within))) ∙ is.begins;
-  ends = sym (placed_event-before e b stop within) ∙ is.ends;
-  later = is.later;
-  none = (λ p after before of. is.none p after before (subst (λ (o : Option RegisterEvent). IsOfReader i o) (sym (placed_event-before e b p (omega (arith, before, within)))) of));
-}
+read_before i start stop v e b within is = grind (arith, placed_event-before)
 
 -- a read that ends with the last event is of its reader and its value, and began with the reader's read under way
 pub record IsLastRead (b : List RegisterEvent) (j u i start stop v : ℕ) : Type 0 where
@@ -185,20 +145,8 @@ pub record IsLastRead (b : List RegisterEvent) (j u i start stop v : ℕ) : Type
   pub value : v ≡ u
 
 pub last_read : (b : List RegisterEvent) (j u i start stop v : ℕ) → has_read_open j b ≡ true → stop ≡ length b → ReadEnds j u ≡ ReadEnds i v → IsReadFrom (ReadEnds j u ∷ b) i start stop v → IsLastRead b j u i start stop v
-last_read b j u i start stop v under_way place event is =
-    let h = ReadEnds j u ∷ b in
-    let who : i ≡ j = cc in
-    let what : v ≡ u = cc in
-    let mine : IsReadFrom h j start (length b) u =
-    subst (λ (k : ℕ). IsReadFrom h j start k u) place (subst (λ (k : ℕ). IsReadFrom h j start stop k) what (subst (λ (k : ℕ). IsReadFrom h k start stop v) who is)) in
-    record {
-      reader = who;
-      from = one_start j u (ReadEnds j u) b (length (before_read j b)) start (reading_began j b under_way) mine;
-      to = place;
-      value = what;
-    }
+last_read b j u i start stop v under_way place event is = grind (arith, (reading_began j b under_way), one_start)
 
 -- so what holds for that one holds for it
 pub of_last : (b : List RegisterEvent) (j u i start stop v : ℕ) (P : ℕ → ℕ → ℕ → Type 0) → IsLastRead b j u i start stop v → P (length (before_read j b)) (length b) u → P start stop v
-of_last b j u i start stop v P last p =
-    subst (λ (k : ℕ). P k stop v) (sym last.from) (subst (λ (k : ℕ). P (length (before_read j b)) k v) (sym last.to) (subst (λ (k : ℕ). P (length (before_read j b)) (length b) k) (sym last.value) p))
+of_last b j u i start stop v P last p = grind arith

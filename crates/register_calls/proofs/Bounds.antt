@@ -1,5 +1,5 @@
 -- The reads that bound a read, after one more event.
-use Rattle.std.proofs.Common.{◌≡◌, ◌≢◌, ◌⊎◌, inl, inr, ℕ, zero, suc, ◌+◌, ◌-◌, ◌≤◌, ◌<◌, Bool, true, false, Option, Some, None, List, [], ◌∷◌, ◌++◌, length, drop, take, refl, ap, sym, subst, ◌∙◌, arith, get_or, get_or-drop, take_at, length-append}
+use Rattle.std.proofs.Common.{◌≡◌, ◌≢◌, ◌⊎◌, inl, inr, ℕ, zero, suc, ◌-◌, ◌≤◌, ◌<◌, Bool, true, false, Option, Some, None, List, [], ◌∷◌, ◌++◌, length, drop, take, refl, sym, subst, ◌∙◌, arith, get_or-drop, take_at, length-append}
 use Rattle.std.specs.Prelude.{slice_get, slice_index_or, nat_lt}
 use Rattle.std.proofs.lemmas.Bool.{cases_lt, lt-ltb, le-ltb}
 use Rattle.std.proofs.lemmas.Bool.Decides.{eqb_tells}
@@ -22,10 +22,7 @@ use Rattle.register_calls.proofs.Sets.{get_left, get_end, drop_twice}
 -- the places where writes begin: one for the first value and for each write
 pub length-places : (h : List RegisterEvent) → length (begin_places h) ≡ suc (started h)
 length-places [] = refl
-length-places (WriteBegins v ∷ b) = let k = length-places b in length-append (begin_places b) (length b ∷ []) ∙ omega (arith, k)
-length-places (WriteEnds ∷ b) = length-places b
-length-places (ReadBegins i ∷ b) = length-places b
-length-places (ReadEnds i v ∷ b) = length-places b
+length-places (e ∷ b) = grind (arith, length-append, (length-places b))
 
 begins_more : (e : RegisterEvent) (b : List RegisterEvent) (n p : ℕ) → BeginsAt b n p → BeginsAt (e ∷ b) n p
 begins_more e b n p (before, v, is, number, place) = (before, v, inr is, number, place)
@@ -49,34 +46,19 @@ begins_at (ReadEnds i v ∷ b) n p some at = begins_more (ReadEnds i v) b n p (b
 -- the place of a write, of those that are kept
 pub begins_kept :
     (h : List RegisterEvent) (places : List ℕ) (base n : ℕ) → places ≡ drop base (begin_places h) → base ≤ n → 0 < n → n ≤ started h → BeginsAt h n (slice_index_or places (n - base) 0)
-begins_kept h places base n is low some few =
-    let long = length-places h in
-    let same : base + (n - base) ≡ n = omega (arith, low) in
-    let kept : slice_index_or places (n - base) 0 ≡ get_or (begin_places h) n 0 =
-    ap (λ (xs : List ℕ). get_or xs (n - base) 0) is ∙ get_or-drop base (begin_places h) (n - base) 0 ∙ ap (λ (k : ℕ). get_or (begin_places h) k 0) same in
-    begins_at h n (slice_index_or places (n - base) 0) some (slice_get-get_or (begin_places h) n 0 (omega (arith, few, long)) ∙ ap Some (sym kept))
+begins_kept h places base n is low some few = grind (arith, begins_at, get_or-drop, length-places, slice_get-get_or)
 
 -- a write begins: its place is added, and some at the front are removed
 pub places_more :
     (h : List RegisterEvent) (places pushed now : List ℕ) (base next count : ℕ) → places ≡ drop base (begin_places h) → count ≡ length h → base ≤ started h → base ≤ next →
     pushed ≡ places ++ count ∷ [] → now ≡ drop (next - base) pushed → now ≡ drop next (begin_places h ++ length h ∷ [])
-places_more h places pushed now base next count is counted few up more gone =
-    let long = length-places h in
-    let fits : base ≤ length (begin_places h) = omega (arith, few, long) in
-    let all : pushed ≡ drop base (begin_places h ++ length h ∷ []) =
-    more ∙ ap (λ (xs : List ℕ). xs ++ count ∷ []) is ∙ sym (drop-append-le base (begin_places h) (count ∷ []) fits) ∙ ap (λ (k : ℕ). drop base (begin_places h ++ k ∷ [])) counted in
-    let same : base + (next - base) ≡ next = omega (arith, up) in
-    gone ∙ ap (λ (xs : List ℕ). drop (next - base) xs) all ∙ drop_twice base (next - base) (begin_places h ++ length h ∷ []) ∙ ap (λ (k : ℕ). drop k (begin_places h ++ length h ∷ [])) same
+places_more h places pushed now base next count is counted few up more gone = grind (arith, (drop_twice base (next - base) (begin_places h ++ length h ∷ [])), (length-places h), drop-append-le)
 
 -- the event is refused
 pub places_back :
     (h : List RegisterEvent) (places pushed now : List ℕ) (base next count : ℕ) → places ≡ drop base (begin_places h) → base ≤ next →
     pushed ≡ places ++ count ∷ [] → now ≡ drop (next - base) (take (length places) pushed) → now ≡ drop next (begin_places h)
-places_back h places pushed now base next count is up more gone =
-    let all : take (length places) pushed ≡ drop base (begin_places h) =
-    ap (λ (xs : List ℕ). take (length places) xs) more ∙ take_at places (count ∷ []) (length places) refl ∙ is in
-    let same : base + (next - base) ≡ next = omega (arith, up) in
-    gone ∙ ap (λ (xs : List ℕ). drop (next - base) xs) all ∙ drop_twice base (next - base) (begin_places h) ∙ ap (λ (k : ℕ). drop k (begin_places h)) same
+places_back h places pushed now base next count is up more gone = grind (arith, drop_twice, take_at)
 
 -- a chain shows reads that bound the next read of a reader; or one that began after these events, if these do not
 abbrev pub ShownBound : Scope → (first j n : ℕ) → List RegisterEvent → Chain → Type 0
@@ -88,17 +70,11 @@ ShownLow s first j n b chain = (n ≤ finished b) ⊎ ((reads : List EarlierRead
 fresh_shows : ShowsReads fresh_chain []
 fresh_shows = record { shown = refl; cut = refl }
 
-bound_more : (s : Scope) (first : ℕ) (reads : List EarlierRead) (j n : ℕ) (e : RegisterEvent) (h : List RegisterEvent) → IsBound s first reads j h n → IsBound s first reads j (e ∷ h) n
-bound_more s first [] j n e h is = is
-bound_more s first (read ∷ reads) j n e h (before, low, begins, seen, ended, written, why, none) = (before, low, inr begins, seen, ended, written, why, none)
-
 shown_same : (s : Scope) (first j n m : ℕ) (h : List RegisterEvent) (chain next : Chain) → m ≡ n → next ≡ chain → ShownBound s first j n h chain → ShownBound s first j m h next
-shown_same s first j n m h chain next number same shown =
-    subst (λ (k : ℕ). ShownBound s first j k h next) (sym number) (subst (λ (c : Chain). ShownBound s first j n h c) (sym same) shown)
+shown_same s first j n m h chain next number same shown = grind arith
 
 shown_more : (s : Scope) (first j n m : ℕ) (e : RegisterEvent) (h : List RegisterEvent) (chain next : Chain) → m ≡ n → next ≡ chain → ShownBound s first j n h chain → ShownBound s first j m (e ∷ h) next
-shown_more s first j n m e h chain next number same (reads, shows, bound) =
-    shown_same s first j n m (e ∷ h) chain next number same (reads, shows, bound_more s first reads j n e h bound)
+shown_more s first j n m e h chain next number same (reads, shows, bound) = grind arith
 
 module _ (s : Scope) (first i v l : ℕ) (h : List RegisterEvent) (chain leaning : Chain) (places : List ℕ) (base count : ℕ) where
   -- a read ends that raises a floor to the first write that it may be of

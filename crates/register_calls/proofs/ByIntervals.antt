@@ -5,7 +5,7 @@ use Rattle.std.proofs.lemmas.Bool.{cases_lt}
 use Rattle.std.proofs.lemmas.Option.{same_Some}
 use Rattle.register_calls.specs.declared.events.Register.{Register}
 use Rattle.register_calls.specs.declared.events.RegisterEvent.{RegisterEvent}
-use Rattle.register_calls.specs.declared.events.RegisterEvent.TheVariants.{WriteBegins, WriteEnds, ReadBegins, ReadEnds}
+use Rattle.register_calls.specs.declared.events.RegisterEvent.TheVariants.{WriteBegins}
 use Rattle.register_calls.specs.Histories.{started, finished, written_values, IsWellFormed, IsBeginning}
 use Rattle.register_calls.specs.Classes.{IsOf}
 use Rattle.register_calls.specs.Intervals.{IsWriteFrom, WriteHasEnded, WriteOverlaps, MayBeOf}
@@ -17,10 +17,7 @@ use Rattle.register_calls.proofs.Beginnings.{started-beginning, formed-beginning
 
 written-zero : (first : ℕ) (h : List RegisterEvent) → slice_get (written_values first h) 0 ≡ Some first
 written-zero first [] = refl
-written-zero first (WriteBegins v ∷ b) = get_left (written_values first b) (v ∷ []) 0 (let k = length-written first b in omega arith) ∙ written-zero first b
-written-zero first (WriteEnds ∷ b) = written-zero first b
-written-zero first (ReadBegins i ∷ b) = written-zero first b
-written-zero first (ReadEnds i v ∷ b) = written-zero first b
+written-zero first (e ∷ b) = grind (arith, get_left, length-written, (written-zero first b))
 
 -- no write overlaps what is between these places
 abbrev pub IsQuiet : List RegisterEvent → (start stop : ℕ) → Type 0
@@ -106,9 +103,7 @@ module _ (first : ℕ) (r : Register) (s b : List RegisterEvent) (part : IsBegin
 
   -- and if none does, it is of the last one
   pub of_quiet : finished s ≡ started b → (v n : ℕ) → IsOf first s b v n → IsOf first s b v (started b)
-  of_quiet quiet v n is =
-      let p = is.0 in let q = is.1 in let same : n ≡ started b = omega (arith, p, q, quiet) in
-      subst (λ (m : ℕ). IsOf first s b v m) same is
+  of_quiet quiet v n is = grind arith
 
 -- with one more event, what was before it is unchanged
 module _ (e : RegisterEvent) (b : List RegisterEvent) where
@@ -119,13 +114,7 @@ module _ (e : RegisterEvent) (b : List RegisterEvent) where
   ends_less w place le (q, after, before, is) = (q, after, before, sym (placed_event-before e b q (omega (arith, before, le))) ∙ is)
 
   pub may_more : (first start stop v k : ℕ) → start ≤ length b → stop ≤ length b → MayBeOf first b start stop v k → MayBeOf first (e ∷ b) start stop v k
-  may_more first start stop v zero p q is =
-      (is.0, λ w u write ends. (let (x, after, before, z) = ends in is.1 w u (sym (placed_event-before e b w (omega (arith, p, after, before))) ∙ write) (ends_less w start p ends)))
-  may_more first start stop v (suc w) p q is = (
-    placed_event-before e b w (let k = is.1 in omega (arith, k, q)) ∙ is.0,
-    is.1,
-    λ w' u write ends. (let (x, after, before, z) = ends in is.2 w' u (sym (placed_event-before e b w' (omega (arith, p, after, before))) ∙ write) (ends_less w' start p ends)),
-  )
+  may_more first start stop v k h1 h2 h3 = grind arith
 
   pub may_less : (first start stop v k : ℕ) → start ≤ length b → stop ≤ length b → MayBeOf first (e ∷ b) start stop v k → MayBeOf first b start stop v k
   may_less first start stop v zero p q is =
@@ -137,9 +126,7 @@ module _ (e : RegisterEvent) (b : List RegisterEvent) where
   )
 
   pub quiet_less : (start stop : ℕ) → start ≤ length b → IsQuiet (e ∷ b) start stop → IsQuiet b start stop
-  quiet_less start stop le none w u write over =
-      none w u (placed_event-before e b w (placed_event-within b w (WriteBegins u) write) ∙ write) (over.0, λ ends. over.1 (ends_less w start le ends))
+  quiet_less start stop le none w u write over = grind (arith, (placed_event-before e b w (placed_event-within b w (WriteBegins u) write)), (placed_event-within b w (WriteBegins u) write), ends_less, over.0, over.1)
 
   pub quiet_more : (start stop : ℕ) → start ≤ length b → stop ≤ length b → IsQuiet b start stop → IsQuiet (e ∷ b) start stop
-  quiet_more start stop le within none w u write over =
-      none w u (sym (placed_event-before e b w (let k = over.0 in omega (arith, k, within))) ∙ write) (over.0, λ ends. over.1 (ends_more w start le ends))
+  quiet_more start stop le within none w u write over = grind arith

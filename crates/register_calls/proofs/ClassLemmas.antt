@@ -1,7 +1,6 @@
 -- The classes of a history: each is in the weaker ones, and each prefix has them.
-use Rattle.std.proofs.Common.{◌≡◌, ℕ, Some, List, [], ◌∷◌, length, refl, sym, subst, ◌∙◌, inl, inr, arith}
+use Rattle.std.proofs.Common.{◌≡◌, ℕ, Some, List, [], ◌∷◌, length, refl, arith}
 use Rattle.std.specs.Prelude.{slice_get}
-use Rattle.std.proofs.lemmas.Option.{none-some}
 use Rattle.register_calls.specs.declared.events.Register.{Register}
 use Rattle.register_calls.specs.declared.events.RegisterEvent.{RegisterEvent}
 use Rattle.register_calls.specs.declared.events.RegisterEvent.TheVariants.{WriteBegins, WriteEnds, ReadBegins, ReadEnds}
@@ -9,7 +8,7 @@ use Rattle.register_calls.specs.declared.events.Class.TheVariants.{Safe, Regular
 use Rattle.register_calls.specs.Histories.{IsValue, started, finished, written_values, before_read, IsWellFormed}
 use Rattle.register_calls.specs.Classes.{IsOf, IsSafe, IsRegular, Scope, Together, EachAlone, Choice, NoneIsLater, Orders, HasOrder}
 use Rattle.register_calls.specs.Findings.{BeginningHasClass, StrongerHasWeaker}
-use Rattle.register_calls.proofs.Sets.{get_more, get_nothing}
+use Rattle.register_calls.proofs.Sets.{get_more}
 
 module _ (s : Scope) (first : ℕ) (of : Choice) where
   ordered_is_regular : (h : List RegisterEvent) → Orders s first of h → IsRegular first h
@@ -43,22 +42,11 @@ atomic_is_alone first h (of, o) = (of, orders_alone first of h o)
 
 -- each value that was written is one of the register
 written_is_value : (r : Register) (h : List RegisterEvent) (n v : ℕ) → IsWellFormed r h → slice_get (written_values r.first h) n ≡ Some v → IsValue r v
-written_is_value r [] n v well at = elim (get_more [] r.first v n at) [
-  | inl past ↦ absurd (none-some v (sym (get_nothing n) ∙ past))
-  | inr same ↦ subst (λ (z : ℕ). IsValue r z) same well
-]
-written_is_value r (WriteBegins u ∷ h) n v well at = elim (get_more (written_values r.first h) u v n at) [
-  | inl before ↦ written_is_value r h n v well.0 before
-  | inr same ↦ subst (λ (z : ℕ). IsValue r z) same well.1
-]
-written_is_value r (WriteEnds ∷ h) n v well at = written_is_value r h n v well.0 at
-written_is_value r (ReadBegins i ∷ h) n v well at = written_is_value r h n v well.0 at
-written_is_value r (ReadEnds i u ∷ h) n v well at = written_is_value r h n v well.0 at
+written_is_value r [] n v well at = grind arith
+written_is_value r (e ∷ h) n v well at = grind (arith, get_more, (written_is_value r h n v well.0))
 
 last_of : (first : ℕ) (start h : List RegisterEvent) (v n : ℕ) → finished start ≡ started h → IsOf first start h v n → IsOf first start h v (started h)
-last_of first start h v n quiet is =
-    let p = is.0 in let q = is.1 in let same : n ≡ started h = omega (arith, p, q, quiet) in
-    subst (λ (m : ℕ). IsOf first start h v m) same is
+last_of first start h v n quiet is = grind arith
 
 -- what is regular is safe
 pub regular_is_safe : (r : Register) (h : List RegisterEvent) → IsWellFormed r h → IsRegular r.first h → IsSafe r h
@@ -66,26 +54,10 @@ regular_is_safe r [] well x = tt
 regular_is_safe r (WriteBegins v ∷ h) well x = regular_is_safe r h well.0 x
 regular_is_safe r (WriteEnds ∷ h) well x = regular_is_safe r h well.0 x
 regular_is_safe r (ReadBegins i ∷ h) well x = regular_is_safe r h well.0 x
-regular_is_safe r (ReadEnds i v ∷ h) well x =
-    let (n, is) = x.1 in (regular_is_safe r h well.0 x.0, written_is_value r h n v well.0 is.2, λ quiet. last_of r.first (before_read i h) h v n quiet is)
+regular_is_safe r (ReadEnds i v ∷ h) well x = grind (arith, last_of, written_is_value, (regular_is_safe r h well.0 x.0))
 
 pub beginning : BeginningHasClass
-beginning Safe r (WriteBegins v) h has = has
-beginning Safe r WriteEnds h has = has
-beginning Safe r (ReadBegins i) h has = has
-beginning Safe r (ReadEnds i v) h has = has.0
-beginning Regular r (WriteBegins v) h has = has
-beginning Regular r WriteEnds h has = has
-beginning Regular r (ReadBegins i) h has = has
-beginning Regular r (ReadEnds i v) h has = has.0
-beginning AtomicByReader r (WriteBegins v) h has = has
-beginning AtomicByReader r WriteEnds h has = has
-beginning AtomicByReader r (ReadBegins i) h has = has
-beginning AtomicByReader r (ReadEnds i v) h (of, orders) = (of, orders.0)
-beginning Atomic r (WriteBegins v) h has = has
-beginning Atomic r WriteEnds h has = has
-beginning Atomic r (ReadBegins i) h has = has
-beginning Atomic r (ReadEnds i v) h (of, orders) = (of, orders.0)
+beginning = grind arith
 
 pub stronger : StrongerHasWeaker
 stronger Safe Safe r h well is has = has

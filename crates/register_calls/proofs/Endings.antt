@@ -1,27 +1,20 @@
 -- Which writes have ended, by the places where they end and by their number.
-use Rattle.std.proofs.Common.{◌≡◌, ◌≢◌, inl, inr, ℕ, suc, ◌≤◌, ◌<◌, List, [], ◌∷◌, length, ap, sym, ◌∙◌, arith}
-use Rattle.std.proofs.lemmas.Bool.{cases_lt}
+use Rattle.std.proofs.Common.{◌≡◌, ◌≢◌, ℕ, suc, ◌≤◌, ◌<◌, List, [], ◌∷◌, length, sym, ◌∙◌, arith}
 use Rattle.register_calls.specs.declared.events.Register.{Register}
 use Rattle.register_calls.specs.declared.events.RegisterEvent.{RegisterEvent}
 use Rattle.register_calls.specs.declared.events.RegisterEvent.TheVariants.{WriteBegins, WriteEnds, ReadBegins, ReadEnds}
 use Rattle.register_calls.specs.Histories.{started, finished, IsWellFormed}
 use Rattle.register_calls.specs.Intervals.{WriteHasEnded}
-use Rattle.register_calls.proofs.Places.{placed_event-here, placed_event-before, placed_event-cases, code, stands, code-last, code-less}
+use Rattle.register_calls.proofs.Places.{placed_event-here, placed_event-before, code, stands, code-less}
 
 -- the number of ended writes is at most that of the writes begun
 pub finished-started : (r : Register) (h : List RegisterEvent) → IsWellFormed r h → finished h ≤ started h
 finished-started r [] formed = omega arith
-finished-started r (WriteBegins v ∷ b) formed = let k = finished-started r b formed.0 in omega (arith, k)
-finished-started r (WriteEnds ∷ b) formed = let k = formed.2 in omega (arith, k)
-finished-started r (ReadBegins i ∷ b) formed = finished-started r b formed.0
-finished-started r (ReadEnds i v ∷ b) formed = finished-started r b formed.0
+finished-started r (e ∷ b) formed = grind (arith, (finished-started r b formed.0))
 
 -- the end of a write, if the last event ends none
 ended_before : (e : RegisterEvent) (b : List RegisterEvent) (w : ℕ) → e ≢ WriteEnds → WriteHasEnded (e ∷ b) w (suc (length b)) → WriteHasEnded b w (length b)
-ended_before e b w other (q, after, before, is) = elim (placed_event-cases e b q WriteEnds is) [
-  | inl here ↦ absurd (other here.1)
-  | inr early ↦ (q, after, early.0, early.1)
-]
+ended_before e b w other (q, after, before, is) = grind arith
 
 ended_still : (e : RegisterEvent) (b : List RegisterEvent) (w : ℕ) → WriteHasEnded b w (length b) → WriteHasEnded (e ∷ b) w (suc (length b))
 ended_still e b w (q, after, before, is) = (q, after, omega arith, placed_event-before e b q before ∙ is)
@@ -29,15 +22,7 @@ ended_still e b w (q, after, before, is) = (q, after, omega arith, placed_event-
 -- the number of a write that has ended is at most that of the writes that have ended
 pub few_ended : (r : Register) (h : List RegisterEvent) (w n : ℕ) → IsWellFormed r h → n ≤ started h → code h n ≡ suc w → WriteHasEnded h w (length h) → n ≤ finished h
 few_ended r [] w n formed few coded ends = omega arith
-few_ended r (WriteBegins v ∷ b) w n formed few coded ends =
-    let before = ended_before (WriteBegins v) b w (λ k. cc) ends in
-    elim (cases_lt (started b) n) [
-      | inl last ↦
-          let same : n ≡ suc (started b) = omega arith in
-          let place : suc w ≡ suc (length b) = sym coded ∙ ap (code (WriteBegins v ∷ b)) same ∙ code-last v b in
-          absurd (let (q, after, early, is) = before in omega (arith, place, after, early))
-      | inr less ↦ few_ended r b w n formed.0 less (sym (code-less v b n less) ∙ coded) before
-    ]
+few_ended r (WriteBegins v ∷ b) w n formed few coded ends = grind arith
 few_ended r (WriteEnds ∷ b) w n formed few coded ends = let k = formed.2 in omega (arith, k, few)
 few_ended r (ReadBegins i ∷ b) w n formed few coded ends = few_ended r b w n formed.0 few coded (ended_before (ReadBegins i) b w (λ k. cc) ends)
 few_ended r (ReadEnds i v ∷ b) w n formed few coded ends = few_ended r b w n formed.0 few coded (ended_before (ReadEnds i v) b w (λ k. cc) ends)

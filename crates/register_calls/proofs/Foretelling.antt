@@ -1,6 +1,6 @@
 -- The classes of a history with the end of one more read, by what the read may be of; and what a refusal implies.
-use Rattle.std.proofs.Common.{◌≡◌, ◌↔◌, ◌⊎◌, inl, inr, ℕ, ◌<◌, Bool, true, false, Option, Some, None, List, ◌∷◌, set, refl, sym, subst, ◌∙◌, arith}
-use Rattle.std.specs.Prelude.{IsTrue, if◌then◌else◌, not}
+use Rattle.std.proofs.Common.{◌≡◌, ◌↔◌, ◌⊎◌, inl, inr, ℕ, ◌<◌, Bool, true, Option, Some, None, List, ◌∷◌, set, refl, sym, ◌∙◌, arith}
+use Rattle.std.specs.Prelude.{IsTrue, if◌then◌else◌}
 use Rattle.std.proofs.lemmas.Bool.{cases_lt}
 use Rattle.register_calls.specs.declared.events.Register.{Register}
 use Rattle.register_calls.specs.declared.events.RegisterEvent.{RegisterEvent}
@@ -8,35 +8,20 @@ use Rattle.register_calls.specs.declared.events.RegisterEvent.TheVariants.{ReadE
 use Rattle.register_calls.specs.declared.events.Class.{Class}
 use Rattle.register_calls.specs.declared.events.Class.TheVariants.{Safe, Regular, AtomicByReader, Atomic}
 use Rattle.register_calls.specs.declared.faults.RegisterFault.{RegisterFault}
-use Rattle.register_calls.specs.declared.faults.RegisterFault.TheVariants.{NoValue, OutOfTurn, TooMany, OutOfMemory}
 use Rattle.register_calls.specs.declared.auditors.OpenRead.{OpenRead}
 use Rattle.register_calls.specs.declared.auditors.ReaderState.{ReaderState}
 use Rattle.register_calls.specs.declared.auditors.FoundWrites.{FoundWrites}
 use Rattle.register_calls.specs.Histories.{IsValue, has_read_open}
-use Rattle.register_calls.specs.Classes.{Scope, HasOrder, HasClass}
+use Rattle.register_calls.specs.Classes.{HasClass}
 use Rattle.register_calls.specs.Judging.{IsRaised, still}
-use Rattle.register_calls.specs.Audits.{FindsWrites, KeepsHistory, KeepsRead, KeepsScope, IsToldBy, RefusesRegisterEvent, RefusesRemembered, reader_at}
+use Rattle.register_calls.specs.Audits.{FindsWrites, KeepsHistory, KeepsRead, RefusesRegisterEvent, RefusesRemembered, reader_at}
 use Rattle.register_calls.proofs.Readers.{moves_set, open_within}
 use Rattle.register_calls.proofs.Hearing.{read_ends_as}
 use Rattle.register_calls.proofs.ReadLemmas.{few_started}
 
--- what a flag says about its statement
-pub told_iff : (b : Bool) (P : Type 0) → IsToldBy b P → IsTrue b ↔ P
-told_iff true P told = ((λ e. told), (λ p. refl))
-told_iff false P told = ((λ e. absurd cc), (λ p. absurd (told p)))
-
-pub lacks_iff : (b : Bool) (P : Type 0) → IsTrue b ↔ P → IsTrue (not b) ↔ (P → ⊥)
-lacks_iff true P is = ((λ e. absurd cc), (λ lacks. absurd (lacks (is.0 refl))))
-lacks_iff false P is = ((λ e p. (let wrong : false ≡ true = is.1 p in absurd cc)), (λ lacks. refl))
-
 -- it held, and still holds
 kept_iff : (b c : Bool) (P Q : Type 0) → IsTrue b ↔ P → IsTrue c ↔ Q → IsTrue (if b then c else true) ↔ (P → Q)
-kept_iff true c P Q was is = ((λ e p. is.0 e), (λ keeps. is.1 (keeps (was.0 refl))))
-kept_iff false c P Q was is = ((λ e p. (let wrong : false ≡ true = was.1 p in absurd cc)), (λ keeps. refl))
-
-scope_told : (b : Bool) (s : Scope) (first : ℕ) (h : List RegisterEvent) (floor : ℕ → ℕ) (low : ℕ → Option ℕ) → KeepsScope b s first h floor low → IsToldBy b (HasOrder s first h)
-scope_told true s first h floor low keeps = (keeps.of, keeps.orders)
-scope_told false s first h floor low keeps = keeps
+kept_iff b c P Q h1 h2 = grind arith
 
 -- the flag that is kept for a class
 abbrev pub flag_of : Class → (safe regular each all : Bool) → Bool
@@ -47,10 +32,7 @@ flag_of Atomic safe regular each all = all
 
 module _ (r : Register) (h : List RegisterEvent) (kept : List ℕ) (base begun : ℕ) (writing : Bool) (readers : List ReaderState) (floor : ℕ) (safe regular each all : Bool) where
   pub class_told : (c : Class) → KeepsHistory r h kept base begun writing readers floor safe regular each all → IsTrue (flag_of c safe regular each all) ↔ HasClass c r h
-  class_told Safe k = told_iff safe (HasClass Safe r h) k.is_safe
-  class_told Regular k = told_iff regular (HasClass Regular r h) k.is_regular
-  class_told AtomicByReader k = told_iff each (HasClass AtomicByReader r h) (scope_told each _ r.first h _ _ k.order_of_each)
-  class_told Atomic k = told_iff all (HasClass Atomic r h) (scope_told all _ r.first h _ _ k.order_of_all)
+  class_told c h1 = grind arith
 
 raised_to : (floor : ℕ) (o : Option ℕ) → (top : ℕ) × IsRaised floor o top
 raised_to floor None = (floor, refl)
@@ -77,15 +59,12 @@ module _ (r : Register) (h : List RegisterEvent) (kept : List ℕ) (base begun :
     -- the same for a flag and a class by any names
     pub has_with_as :
         (c d : Class) (b : Bool) → c ≡ d → b ≡ flag_of d now (still regular found.of_any) (still each found.of_own) (still all found.of_all) → IsTrue b ↔ HasClass c r (ReadEnds i v ∷ h)
-    has_with_as c d b class flag =
-        subst (λ (z : Class). IsTrue b ↔ HasClass z r (ReadEnds i v ∷ h)) (sym class) (subst (λ (z : Bool). IsTrue z ↔ HasClass d r (ReadEnds i v ∷ h)) (sym flag) (has_with_read d))
+    has_with_as c d b class flag = grind (arith, has_with_read)
 
     keeps_this : (c : Class) →
         IsTrue (if flag_of c safe regular each all then flag_of c now (still regular found.of_any) (still each found.of_own) (still all found.of_all) else true) ↔
         (HasClass c r h → HasClass c r (ReadEnds i v ∷ h))
-    keeps_this c =
-        kept_iff (flag_of c safe regular each all) (flag_of c now (still regular found.of_any) (still each found.of_own) (still all found.of_all)) (HasClass c r h) (HasClass c r (ReadEnds i v ∷ h))
-        (class_told r h kept base begun writing readers floor safe regular each all c k) (has_with_read c)
+    keeps_this c = grind (arith, class_told, has_with_read, kept_iff)
 
     -- it keeps each class, if it keeps the four
     pub keeps_with_read :
@@ -111,13 +90,8 @@ module _ (r : Register) (h : List RegisterEvent) (kept : List ℕ) (base begun :
 pub refused_is :
     (fault : RegisterFault) (writes readers most : ℕ) (r : Register) (h : List RegisterEvent) (e : RegisterEvent) → RefusesRegisterEvent writes readers most fault r h e →
     RefusesRemembered most fault r h e
-refused_is NoValue writes readers most r h e refused = refused
-refused_is OutOfTurn writes readers most r h e refused = refused
-refused_is TooMany writes readers most r h e refused = let p = refused.3 in let q = few_started h in omega (arith, p, q)
-refused_is OutOfMemory writes readers most r h e refused = tt
+refused_is fault writes readers most r h e h1 = grind (arith, few_started)
 
 -- a reader that has no read under way is out of turn
 pub none_open : (i : ℕ) (h : List RegisterEvent) (o : Option OpenRead) → o ≡ None → KeepsRead i h o → has_read_open i h ≡ true → ⊥
-none_open i h o none keeps turn =
-    let idle : has_read_open i h ≡ false = subst (λ (z : Option OpenRead). KeepsRead i h z) none keeps in
-    let wrong : false ≡ true = sym idle ∙ turn in absurd cc
+none_open i h o none keeps turn = grind arith

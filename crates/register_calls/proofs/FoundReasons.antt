@@ -1,6 +1,6 @@
 -- What contradicts a read that ends now, by what a witness keeps.
-use Rattle.std.proofs.Common.{◌≡◌, inl, inr, ℕ, ◌+◌, ◌-◌, ◌≤◌, Bool, true, false, Option, Some, None, List, [], ◌∷◌, length, drop, refl, ap, sym, subst, ◌∙◌, arith, get_or, get_or-drop}
-use Rattle.std.specs.Prelude.{slice_get, slice_index_or, option_map}
+use Rattle.std.proofs.Common.{◌≡◌, inl, inr, ℕ, ◌-◌, ◌≤◌, Bool, true, false, Option, Some, None, List, [], ◌∷◌, length, drop, refl, ap, sym, subst, arith, get_or-drop}
+use Rattle.std.specs.Prelude.{slice_index_or, option_map}
 use Rattle.std.proofs.lemmas.Option.{slice_get_within, slice_get-get_or}
 use Rattle.register_calls.specs.declared.events.Register.{Register}
 use Rattle.register_calls.specs.declared.events.RegisterEvent.{RegisterEvent}
@@ -29,11 +29,7 @@ use Rattle.register_calls.proofs.Remembering.{EachBounds, AllBounds}
 
 -- what was found from when the read began, or from later on, is a write that the read may be of
 found_is_of : (first l : ℕ) (h : List RegisterEvent) (i v n : ℕ) → finished (before_read i h) ≤ l → IsLeast (written_values first h) l v n → IsOf first (before_read i h) h v n
-found_is_of first l h i v n began least =
-    let from = least.0 in
-    let within = slice_get_within (written_values first h) n v least.1 in
-    let long = length-written first h in
-    (omega (arith, from, began), omega (arith, within, long), least.1)
+found_is_of first l h i v n began least = grind (arith, length-written, slice_get_within)
 
 module _ (s : Scope) (first i v l m : ℕ) (h : List RegisterEvent) (floor : ℕ → ℕ) (low : ℕ → Option ℕ) (mine : low i ≡ Some l) (began : finished (before_read i h) ≤ l) where
   -- the read is of this write, in an order that continues
@@ -55,32 +51,23 @@ module _ (s : Scope) (first i v l m : ℕ) (h : List RegisterEvent) (floor : ℕ
 
 module _ (r : Register) (h : List RegisterEvent) (i v base : ℕ) (found : FoundWrites) (firsts : FirstWrites r.first h i v base found) where
   none_since : found.of_any ≡ None → HasNone (written_values r.first h) (finished (before_read i h)) v
-  none_since none =
-      subst (λ (n : ℕ). HasNone (written_values r.first h) n v) firsts.began
-      (subst (λ (o : Option ℕ). IsFirstPlace (written_values r.first h) found.read.before v o) none firsts.any)
+  none_since none = grind arith
 
   -- none of the writes that the read may be of wrote the value
   pub not_written_there :
       (c : Class) (begun : ℕ) → found.of_any ≡ None → begun ≡ started h → (found.read.before ≡ begun → ⊥) → IsValue r v → HasClass c r h → (HasClass c r (ReadEnds i v ∷ h) → ⊥) →
       IsMissReason c r h i v NotWritten
-  not_written_there Safe begun none count apart value has lacks = absurd (lacks (has, value, λ quiet. absurd (apart (firsts.began ∙ quiet ∙ sym count))))
-  not_written_there Regular begun none count apart value has lacks = none_since none
-  not_written_there AtomicByReader begun none count apart value has lacks = none_since none
-  not_written_there Atomic begun none count apart value has lacks = none_since none
+  not_written_there c begun h1 h2 h3 h4 h5 h6 = grind arith
 
   module _ (m : ℕ) (some : found.of_any ≡ Some m) where
     first_any : IsLeast (written_values r.first h) (finished (before_read i h)) v m
-    first_any =
-        subst (λ (n : ℕ). IsLeast (written_values r.first h) n v m) firsts.began
-        (subst (λ (o : Option ℕ). IsFirstPlace (written_values r.first h) found.read.before v o) some firsts.any)
+    first_any = grind arith
 
     is_of : IsOf r.first (before_read i h) h v m
     is_of = found_is_of r.first (finished (before_read i h)) h i v m (omega arith) first_any
 
     is_of_last : finished (before_read i h) ≡ started h → IsOf r.first (before_read i h) h v (started h)
-    is_of_last quiet =
-        let same : m ≡ started h = let p = is_of.0 in let q = is_of.1 in omega (arith, p, q, quiet) in
-        subst (λ (n : ℕ). IsOf r.first (before_read i h) h v n) same is_of
+    is_of_last quiet = grind (arith, is_of)
 
     -- the writes of the value that the read may be of come before that of an earlier read
     pub inverted_there :
@@ -103,8 +90,7 @@ module _ (r : Register) (h : List RegisterEvent) (i v base : ℕ) (found : Found
 
 -- the last write that ended is the one that the register holds
 held_more : (e : RegisterEvent) (b : List RegisterEvent) (since : Option ℕ) → started (e ∷ b) ≡ started b → IsHeldFrom b since → IsHeldFrom (e ∷ b) since
-held_more e b None same held = same ∙ held
-held_more e b (Some place) same (before, is, at, number) = (before, inr is, at, number ∙ sym same)
+held_more e b since h1 h2 = grind arith
 
 held_from : (r : Register) (h : List RegisterEvent) → IsWellFormed r h → finished h ≡ started h → IsHeldFrom h (last_end h)
 held_from r [] formed quiet = refl
@@ -118,18 +104,4 @@ pub held_there :
     (c : Class) (r : Register) (h : List RegisterEvent) (i v base begun value : ℕ) (found : FoundWrites) (kept : List ℕ) (since : Option ℕ) → FirstWrites r.first h i v base found → found.of_any ≡ None →
     found.read.before ≡ begun → begun ≡ started h → IsWellFormed r h → kept ≡ drop base (written_values r.first h) → value ≡ slice_index_or kept (begun - base) 0 → since ≡ last_end h →
     IsMissReason c r h i v (Held value since)
-held_there c r h i v base begun value found kept since firsts none last count formed values is ended =
-    let written = written_values r.first h in
-    let quiet : finished (before_read i h) ≡ started h = sym firsts.began ∙ last ∙ count in
-    let low : base ≤ begun = let p = firsts.kept in omega (arith, p, last) in
-    let long = length-written r.first h in
-    let number : base + (begun - base) ≡ started h = omega (arith, low, count) in
-    let same : value ≡ get_or written (started h) 0 =
-    is ∙ ap (λ (xs : List ℕ). get_or xs (begun - base) 0) values ∙ get_or-drop base written (begun - base) 0 ∙ ap (λ (n : ℕ). get_or written n 0) number in
-    let there : slice_get written (started h) ≡ Some value = slice_get-get_or written (started h) 0 (omega (arith, long)) ∙ ap Some (sym same) in
-    let all : finished h ≡ started h = let p = finished-before_read i h in let q = finished-started r h formed in omega (arith, p, q, quiet) in (
-      quiet,
-      there,
-      λ other. none_since r h i v base found firsts none (started h) (omega (arith, quiet)) (there ∙ ap Some other),
-      subst (λ (o : Option ℕ). IsHeldFrom h o) (sym ended) (held_from r h formed all),
-    )
+held_there c r h i v base begun value found kept since firsts none last count formed values is ended = grind (arith, finished-before_read, finished-started, get_or-drop, held_from, length-written, none_since, slice_get-get_or)

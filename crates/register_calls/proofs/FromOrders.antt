@@ -1,8 +1,7 @@
 -- From an order of operations to a choice of writes: each read is of the last write before it.
-use Rattle.std.proofs.Common.{◌≡◌, ◌≢◌, ◌⊎◌, inl, inr, ℕ, zero, suc, ◌≤◌, ◌<◌, Some, List, [], ◌∷◌, length, refl, ap, sym, subst, arith}
+use Rattle.std.proofs.Common.{rules, ◌≡◌, ◌≢◌, ◌⊎◌, inl, inr, ℕ, zero, suc, ◌≤◌, ◌<◌, Some, List, [], ◌∷◌, length, refl, ap, sym, subst, arith}
 use Rattle.std.specs.Prelude.{◌==◌, if◌then◌else◌}
 use Rattle.std.proofs.lemmas.Bool.{cases_lt}
-use Rattle.std.proofs.lemmas.Bool.Decides.{eqb_tells}
 use Rattle.register_calls.specs.declared.events.Register.{Register}
 use Rattle.register_calls.specs.declared.events.RegisterEvent.{RegisterEvent}
 use Rattle.register_calls.specs.declared.events.RegisterEvent.TheVariants.{WriteBegins, ReadEnds}
@@ -10,7 +9,6 @@ use Rattle.register_calls.specs.Histories.{IsWellFormed}
 use Rattle.register_calls.specs.Classes.{Together}
 use Rattle.register_calls.specs.Intervals.{placed_event, IsReadFrom, IsWriteFrom, WriteHasEnded, MayBeOf, HasChoice}
 use Rattle.register_calls.specs.Linearizations.{RegisterOperation, AWrite, ARead, IsOperationOf, HasEndedBy, IsOrdered, AreLegal, KeepsRealTime, RegisterLinearization, AtomicIsLinearizable}
-use Rattle.register_calls.proofs.ReadLemmas.{chosen, left}
 use Rattle.register_calls.proofs.Places.{placed_event-within}
 use Rattle.register_calls.proofs.OrderByIntervals.{order_is}
 use Rattle.register_calls.proofs.LinearLemmas.{one_operation, ended_next, Holds, may_be}
@@ -23,10 +21,7 @@ write_before k stop (AWrite w v ∷ order) = write_before (suc w) stop order
 write_before k stop (ARead i start t v ∷ order) = if t == stop then k else write_before k stop order
 
 by_test : (a b : ℕ) (P : ℕ → Type 0) (x y : ℕ) → (a ≡ b → P x) → (a ≢ b → P y) → P (if a == b then x else y)
-by_test a b P x y f g = elim (eqb_tells a b) [
-  | inl same ↦ subst P (sym (chosen (a == b) x y same.0)) (f same.1)
-  | inr apart ↦ subst P (sym (left (a == b) x y apart.0)) (g apart.1)
-]
+by_test a b P x y f g = grind arith
 
 -- what is known about the rest of a linearization: k represents the last write so far, and the register holds its value
 record Reaches (first : ℕ) (h : List RegisterEvent) (k held : ℕ) (order : List RegisterOperation) : Type 0 where
@@ -64,21 +59,7 @@ module _ (r : Register) (h : List RegisterEvent) (formed : IsWellFormed r h) whe
       ]
 
   after_read : (order : List RegisterOperation) (k held i s t v : ℕ) → Reaches r.first h k held (ARead i s t v ∷ order) → Reaches r.first h k held order
-  after_read order k held i s t v is = record {
-    holds = is.holds;
-    each = (λ o there. is.each o (inr there));
-    legal = is.legal.1;
-    keeps = is.keeps.1;
-    passed = passed;
-    later = (λ o there. is.later o (inr there));
-  }
-    where
-      passed : (x u : ℕ) → IsWriteFrom h u x → WriteHasEnded h x (length h) → IsOrdered (AWrite x u) order ⊎ (x < k)
-      passed x u write ends = elim (is.passed x u write ends) [
-        | inl (inl same) ↦ absurd cc
-        | inl (inr rest) ↦ inl rest
-        | inr less ↦ inr less
-      ]
+  after_read order k held i s t v is = grind arith
 
   -- the next read may be of the last write
   early : (order : List RegisterOperation) (k held i s t v : ℕ) → Reaches r.first h k held (ARead i s t v ∷ order) → k ≤ t
@@ -133,12 +114,8 @@ module _ (r : Register) (h : List RegisterEvent) (formed : IsWellFormed r h) whe
 
   no_earlier : (order : List RegisterOperation) (k held stop : ℕ) → Reaches r.first h k held order → k ≤ write_before k stop order
   no_earlier [] k held stop is = omega arith
-  no_earlier (AWrite w u ∷ order) k held stop is =
-      let l = grows order k held w u is in
-      let m = no_earlier order (suc w) u stop (after_write order k held w u is) in
-      omega arith
-  no_earlier (ARead j s t u ∷ order) k held stop is =
-      by_test t stop (λ (n : ℕ). k ≤ n) k (write_before k stop order) (λ same. omega arith) (λ apart. no_earlier order k held stop (after_read order k held j s t u is))
+  no_earlier (AWrite w u ∷ order) k held stop is = search (rules, after_write, grows, (no_earlier order (suc w) u stop (after_write order k held w u is)))
+  no_earlier (ARead j s t u ∷ order) k held stop is = grind (arith, (no_earlier order k held stop (after_read order k held j s t u is)))
 
   -- of two reads, one after the other, the later one is of no earlier write
   in_order :
@@ -146,8 +123,7 @@ module _ (r : Register) (h : List RegisterEvent) (formed : IsWellFormed r h) whe
   in_order [] k held i start stop v j start' stop' u is one two less = absurd one
   in_order (AWrite w x ∷ order) k held i start stop v j start' stop' u is (inl same) two less = absurd cc
   in_order (AWrite w x ∷ order) k held i start stop v j start' stop' u is (inr rest) (inl same) less = absurd cc
-  in_order (AWrite w x ∷ order) k held i start stop v j start' stop' u is (inr rest) (inr more) less =
-      in_order order (suc w) x i start stop v j start' stop' u (after_write order k held w x is) rest more less
+  in_order (AWrite w x ∷ order) k held i start stop v j start' stop' u is (inr rest) (inr more) less = grind (arith, (in_order order (suc w) x i start stop v j start' stop' u (after_write order k held w x is) rest more less))
   in_order (ARead m s t x ∷ order) k held i start stop v j start' stop' u is one two less =
       by_test t stop' (λ (n : ℕ). (if t == stop then k else write_before k stop order) ≤ n) k (write_before k stop' order)
       (λ same. absurd (elim one [

@@ -1,8 +1,7 @@
 -- What is kept of a history, after one more event.
-use Rattle.std.proofs.Common.{◌≡◌, ◌⊎◌, ◌↔◌, inl, inr, ℕ, zero, suc, ◌+◌, ◌-◌, ◌≤◌, ◌<◌, Bool, true, false, Option, Some, None, List, [], ◌∷◌, ◌++◌, length, drop, refl, ap, sym, subst, ◌∙◌, arith}
+use Rattle.std.proofs.Common.{◌≡◌, ◌⊎◌, ◌↔◌, inl, inr, ℕ, suc, ◌+◌, ◌-◌, ◌≤◌, ◌<◌, Bool, true, false, Option, Some, None, List, [], ◌∷◌, ◌++◌, length, drop, refl, ap, sym, subst, ◌∙◌, arith}
 use Rattle.std.specs.Prelude.{slice_get, option_map, if◌then◌else◌}
 use Rattle.std.proofs.lemmas.List.{drop-append-le}
-use Rattle.std.proofs.lemmas.Bool.{cases_lt}
 use Rattle.std.proofs.lemmas.Bool.Decides.{eqb_tells}
 use Rattle.std.proofs.lemmas.Option.{none-some, same_Some, slice_get_within}
 use Rattle.register_calls.specs.declared.events.Register.{Register}
@@ -13,70 +12,40 @@ use Rattle.register_calls.specs.declared.auditors.ReaderState.{ReaderState}
 use Rattle.register_calls.specs.declared.auditors.FoundWrites.{FoundWrites}
 use Rattle.register_calls.specs.Histories.{IsValue, started, finished, written_values, has_read_open, before_read}
 use Rattle.register_calls.specs.Classes.{IsOf, IsSafe, IsRegular, sees, Together, EachAlone}
-use Rattle.register_calls.specs.Judging.{IsFirstPlace, IsFrom, IsGreater, IsRaised, still}
+use Rattle.register_calls.specs.Judging.{IsFirstPlace, IsGreater, IsRaised, still}
 use Rattle.register_calls.specs.Audits.{MovesReader, FindsWrites, reader_at, KeepsRead, KeepsHistory, IsToldBy, IsOldest, IsOldestKept, lows, own_lows, own_floors}
 use Rattle.register_calls.proofs.ReadLemmas.{before_read-begin, before_read-other, read_open-begin, read_open-begin_other, read_open-end, read_open-end_other, length-written, finished-before_read}
-use Rattle.register_calls.proofs.Keeping.{keeps_nothing, scope_write, scope_wrote, scope_read, scope_got, scope_same}
+use Rattle.register_calls.proofs.Keeping.{keeps_nothing, scope_write, scope_read, scope_got, scope_same}
 use Rattle.register_calls.proofs.Sets.{drop_twice, get-drop}
 use Rattle.register_calls.proofs.Readers.{lows_others, own_lows_others}
 
 pub turn_of : (b : Bool) (start stop : ℕ) → start ≡ (if b then suc stop else stop) → stop ≤ start
-turn_of true start stop q = omega arith
-turn_of false start stop q = omega arith
+turn_of b start stop h1 = grind arith
 
 pub told_same : (t : Bool) (P Q : Type 0) → (P → Q) → (Q → P) → IsToldBy t P → IsToldBy t Q
-told_same true P Q there back told = there told
-told_same false P Q there back told = λ q. told (back q)
+told_same t P Q h1 h2 h3 = grind arith
 
 -- what is kept about a reader, if its read is unchanged
 moved : (j : ℕ) (h g : List RegisterEvent) (o : Option OpenRead) → has_read_open j g ≡ has_read_open j h → before_read j g ≡ before_read j h → KeepsRead j h o → KeepsRead j g o
-moved j h g None same all keeps = same ∙ keeps
-moved j h g (Some r) same all keeps = (same ∙ keeps.0, keeps.1 ∙ ap finished (sym all), keeps.2, keeps.3)
+moved j h g o h1 h2 h3 = grind arith
 
 module _ (r : Register) (h : List RegisterEvent) (kept : List ℕ) (base begun : ℕ) where
   -- as many have ended as the code says
   pub ended_is :
       (writing : Bool) (readers : List ReaderState) (floor : ℕ) (safe regular each all : Bool) → KeepsHistory r h kept base begun writing readers floor safe regular each all →
       (if writing then begun - 1 else begun) ≡ finished h
-  ended_is true readers floor safe regular each all k = let p = k.count in let q = k.turn in omega (arith, p, q)
-  ended_is false readers floor safe regular each all k = k.count ∙ k.turn
+  ended_is writing readers floor safe regular each all h1 = grind arith
 
   module _ (readers : List ReaderState) (floor : ℕ) (safe regular each all : Bool) where
     -- a write begins
     pub write_begins :
         (v : ℕ) → IsValue r v → KeepsHistory r h kept base begun false readers floor safe regular each all →
         KeepsHistory r (WriteBegins v ∷ h) (kept ++ v ∷ []) base (suc begun) true readers floor safe regular each all
-    write_begins v value k = record {
-      well_formed = (k.well_formed, value, k.turn);
-      count = ap suc k.count;
-      turn = ap suc k.turn;
-      low = k.low;
-      values =
-          let fits : base ≤ length (written_values r.first h) = let p = k.low in let q = k.turn in let l = length-written r.first h in omega (arith, p, q, l) in
-          ap (λ (xs : List ℕ). xs ++ v ∷ []) k.values ∙ sym (drop-append-le base (written_values r.first h) (v ∷ []) fits);
-      reads = k.reads;
-      needed = k.needed;
-      is_safe = k.is_safe;
-      is_regular = k.is_regular;
-      order_of_each = scope_write EachAlone r.first each v h (own_floors readers) (own_lows readers) k.order_of_each;
-      order_of_all = scope_write Together r.first all v h (λ i. floor) (lows readers) k.order_of_all;
-    }
+    write_begins v value k = grind (arith, drop-append-le, length-written, scope_write)
 
     -- it ends
     pub write_ends : KeepsHistory r h kept base begun true readers floor safe regular each all → KeepsHistory r (WriteEnds ∷ h) kept base begun false readers floor safe regular each all
-    write_ends k = record {
-      well_formed = (k.well_formed, tt, k.turn);
-      count = k.count;
-      turn = k.turn;
-      low = (let p = k.low in omega (arith, p));
-      values = k.values;
-      reads = k.reads;
-      needed = k.needed;
-      is_safe = k.is_safe;
-      is_regular = k.is_regular;
-      order_of_each = scope_wrote EachAlone r.first each h (own_floors readers) (own_lows readers) k.order_of_each;
-      order_of_all = scope_wrote Together r.first all h (λ i. floor) (lows readers) k.order_of_all;
-    }
+    write_ends k = grind arith
 
     -- a read begins
     pub read_begins :
@@ -132,63 +101,36 @@ module _ (r : Register) (h : List RegisterEvent) (kept : List ℕ) (base begun :
         ]
 
 held_told : (held : Bool) (P : Type 0) → held ≡ true → IsToldBy held P → P
-held_told true P is told = told
-held_told false P is told = absurd cc
+held_told held P h1 h2 = grind arith
 
 told_held : (held : Bool) (P : Type 0) → IsToldBy held P → P → held ≡ true
-told_held true P told p = refl
-told_held false P told p = absurd (told p)
+told_held held P h1 h2 = grind arith
 
 module _ (first : ℕ) (h : List RegisterEvent) (i v before begun : ℕ) where
   -- a read that no write overlaps, and that may be of a write, is of the last one
   last_one :
       (found : Option ℕ) → before ≡ finished (before_read i h) → begun ≡ started h → before ≤ begun → IsFirstPlace (written_values first h) before v found →
       (before < begun) ⊎ (still true found ≡ true) → finished (before_read i h) ≡ started h → IsOf first (before_read i h) h v (started h)
-  last_one None start all turn at (inl lt) quiet = absurd (omega (arith, lt))
-  last_one None start all turn at (inr some) quiet = absurd cc
-  last_one (Some n) start all turn at either quiet =
-      let within = slice_get_within (written_values first h) n v at.1 in
-      let long = length-written first h in
-      let from = at.0 in
-      let same : n ≡ started h = omega (arith, from, within, long) in
-      (omega arith, omega arith, subst (λ (m : ℕ). slice_get (written_values first h) m ≡ Some v) same at.1)
+  last_one found h1 h2 h3 h4 h5 h6 = grind (arith, length-written, slice_get_within)
 
   -- and vice versa
   overlapped_or_one :
       (found : Option ℕ) → before ≡ finished (before_read i h) → begun ≡ started h → before ≤ begun → IsFirstPlace (written_values first h) before v found →
       (finished (before_read i h) ≡ started h → IsOf first (before_read i h) h v (started h)) → (before < begun) ⊎ (still true found ≡ true)
-  overlapped_or_one (Some n) start all turn at last = inr refl
-  overlapped_or_one None start all turn at last = elim (cases_lt before begun) [
-    | inl lt ↦ inl lt
-    | inr ge ↦
-        let quiet : finished (before_read i h) ≡ started h = omega arith in
-        absurd (at (started h) (omega arith) (last quiet).2)
-  ]
+  overlapped_or_one found h1 h2 h3 h4 h5 = grind arith
 
 -- whether a history with a read is safe
 pub safe_got :
     (r : Register) (h : List RegisterEvent) (i v before begun : ℕ) (found : Option ℕ) (held now : Bool) → before ≡ finished (before_read i h) → begun ≡ started h → before ≤ begun →
     IsFirstPlace (written_values r.first h) before v found → (now ≡ true) ↔ ((held ≡ true) × IsValue r v × ((before < begun) ⊎ (still true found ≡ true))) →
     IsToldBy held (IsSafe r h) → IsToldBy now (IsSafe r (ReadEnds i v ∷ h))
-safe_got r h i v before begun found held true start all turn at is told =
-    let (was, value, either) = is.0 refl in
-    (held_told held (IsSafe r h) was told, value, last_one r.first h i v before begun found start all turn at either)
-safe_got r h i v before begun found held false start all turn at is told = λ s.
-    let wrong : false ≡ true = is.1 (told_held held (IsSafe r h) told s.0, s.1, overlapped_or_one r.first h i v before begun found start all turn at s.2) in
-    absurd cc
+safe_got r h i v before begun found held now h1 h2 h3 h4 h5 h6 = grind (arith, held_told, last_one, overlapped_or_one, told_held)
 
 -- whether it is regular
 pub regular_got :
     (r : Register) (h : List RegisterEvent) (i v before : ℕ) (found : Option ℕ) (held : Bool) → before ≡ finished (before_read i h) →
     IsFirstPlace (written_values r.first h) before v found → IsToldBy held (IsRegular r.first h) → IsToldBy (still held found) (IsRegular r.first (ReadEnds i v ∷ h))
-regular_got r h i v before None true start at told = λ has. let (n, is) = has.1 in at n (let p = is.0 in omega (arith, p, start)) is.2
-regular_got r h i v before None false start at told = λ has. told has.0
-regular_got r h i v before (Some n) false start at told = λ has. told has.0
-regular_got r h i v before (Some n) true start at told =
-    let within = slice_get_within (written_values r.first h) n v at.1 in
-    let long = length-written r.first h in
-    let from = at.0 in
-    (told, (n, (omega (arith, from, start), omega (arith, within, long), at.1)))
+regular_got r h i v before found held h1 h2 h3 = grind (arith, length-written, slice_get_within)
 
 module _ (r : Register) (h : List RegisterEvent) (kept : List ℕ) (base begun : ℕ) (writing : Bool) (readers : List ReaderState) (floor : ℕ) (safe regular each all : Bool) where
   -- a read ends
@@ -283,72 +225,17 @@ module _ (r : Register) (h : List RegisterEvent) (kept : List ℕ) (base begun :
   pub forgets :
       (less : List ℕ) (number : ℕ) → base ≤ number → less ≡ drop (number - base) kept → IsOldest h number → KeepsHistory r h kept base begun writing readers floor safe regular each all →
       KeepsHistory r h less number begun writing readers floor safe regular each all
-  forgets less number up is oldest k = record {
-    well_formed = k.well_formed;
-    count = k.count;
-    turn = k.turn;
-    low = oldest.ended;
-    values = is ∙ ap (λ (xs : List ℕ). drop (number - base) xs) k.values ∙ drop_twice base (number - base) (written_values r.first h) ∙ ap (λ (n : ℕ). drop n (written_values r.first h)) (let e : base + (number - base) ≡ number = omega arith in e);
-    reads = k.reads;
-    needed = needed;
-    is_safe = k.is_safe;
-    is_regular = k.is_regular;
-    order_of_each = k.order_of_each;
-    order_of_all = k.order_of_all;
-  }
-    where
-      needed : (i : ℕ) (read : OpenRead) → (reader_at readers i).reading ≡ Some read → number ≤ read.before
-      needed i read at =
-          let mine : KeepsRead i h (Some read) = subst (λ (o : Option OpenRead). KeepsRead i h o) at (k.reads i) in
-          let p = oldest.each i mine.0 in let q = mine.1 in omega (arith, p, q)
+  forgets less number up is oldest k = grind (arith, drop_twice)
 
   -- the same readers, in a list that may be longer
   pub keeps_same :
       (ys : List ReaderState) → ((j : ℕ) → reader_at ys j ≡ reader_at readers j) → KeepsHistory r h kept base begun writing readers floor safe regular each all →
       KeepsHistory r h kept base begun writing ys floor safe regular each all
-  keeps_same ys same k = record {
-    well_formed = k.well_formed;
-    count = k.count;
-    turn = k.turn;
-    low = k.low;
-    values = k.values;
-    reads = (λ j. subst (λ (s : ReaderState). KeepsRead j h s.reading) (sym (same j)) (k.reads j));
-    needed = (λ j z at. k.needed j z (ap (λ (s : ReaderState). s.reading) (sym (same j)) ∙ at));
-    is_safe = k.is_safe;
-    is_regular = k.is_regular;
-    order_of_each = scope_same EachAlone r.first each h (own_floors readers) (own_floors ys) (own_lows readers) (own_lows ys) (λ j. ap (λ (s : ReaderState). s.own) (same j))
-        (λ j. ap (λ (s : ReaderState). option_map (λ (z : OpenRead). z.own_low) s.reading) (same j)) k.order_of_each;
-    order_of_all = scope_same Together r.first all h (λ j. floor) (λ j. floor) (lows readers) (lows ys) (λ j. refl)
-        (λ j. ap (λ (s : ReaderState). option_map (λ (z : OpenRead). z.low) s.reading) (same j)) k.order_of_all;
-  }
+  keeps_same ys same k = grind (arith, scope_same)
 
 -- before any event
 pub begins : (r : Register) (kept : List ℕ) (readers : List ReaderState) → IsValue r r.first → kept ≡ r.first ∷ [] → readers ≡ [] → KeepsHistory r [] kept 0 0 false readers 0 true true true true
-begins r kept readers value is none = keeps_same r [] kept 0 0 false [] 0 true true true true readers (λ j. ap (λ (xs : List ReaderState). reader_at xs j) none) (record {
-  well_formed = value;
-  count = refl;
-  turn = refl;
-  low = omega arith;
-  values = is;
-  reads = fresh_reads;
-  needed = (λ i read at. absurd (none-some read (sym (fresh i) ∙ at)));
-  is_safe = tt;
-  is_regular = tt;
-  order_of_each = keeps_nothing EachAlone r.first (own_floors []) (own_lows []) fresh_floors (λ i. ap (λ (o : Option OpenRead). option_map (λ (z : OpenRead). z.own_low) o) (fresh i));
-  order_of_all = keeps_nothing Together r.first (λ i. 0) (lows []) (λ i. refl) (λ i. ap (λ (o : Option OpenRead). option_map (λ (z : OpenRead). z.low) o) (fresh i));
-})
-  where
-    fresh : (i : ℕ) → (reader_at [] i).reading ≡ None
-    fresh zero = refl
-    fresh (suc i) = refl
-
-    fresh_floors : (i : ℕ) → own_floors [] i ≡ 0
-    fresh_floors zero = refl
-    fresh_floors (suc i) = refl
-
-    fresh_reads : (i : ℕ) → KeepsRead i [] (reader_at [] i).reading
-    fresh_reads zero = refl
-    fresh_reads (suc i) = refl
+begins r kept readers value is none = grind (arith, keeps_nothing, keeps_same, none-some)
 
 -- the first place among the writes that are kept, by the number of the write
 pub first_of :
@@ -365,19 +252,10 @@ first_of written kept base from v (Some k) is low least = (
       (ap (λ (xs : List ℕ). slice_get xs (n - base)) is ∙ get-drop base (n - base) written ∙ subst (λ (m : ℕ). slice_get written m ≡ Some v) e at),
 )
 
--- the first place from a number on is the first from a later one on, if it does not come before that
-pub first_later :
-    (written : List ℕ) (before from v : ℕ) (found : Option ℕ) → before ≤ from → IsFrom from found → IsFirstPlace written before v found → IsFirstPlace written from v found
-first_later written before from v None le not_before at = λ n ge. at n (omega (arith, le, ge))
-first_later written before from v (Some k) le not_before at = (not_before, at.1, λ n ge lt. at.2 n (omega (arith, le, ge)) lt)
-
 module _ (r : Register) (h : List RegisterEvent) (kept : List ℕ) (base begun : ℕ) (writing : Bool) (readers : List ReaderState) (floor : ℕ) (safe regular each all : Bool) where
   -- none that is kept is forgotten too early
   pub oldest_up : (number : ℕ) → IsOldestKept (if writing then begun - 1 else begun) readers number → KeepsHistory r h kept base begun writing readers floor safe regular each all → base ≤ number
-  oldest_up number oldest k = elim oldest.some [
-    | inl same ↦ (let p = k.low in let q = ended_is r h kept base begun writing readers floor safe regular each all k in omega (arith, p, q, same))
-    | inr read ↦ (let p = k.needed read.0 read.1 read.2 in let q = read.3 in omega (arith, p, q))
-  ]
+  oldest_up number oldest k = grind arith
 
   -- a write begins, by what is known about the numbers
   pub write_begins_as :

@@ -15,10 +15,7 @@ use Rattle.register_calls.proofs.OrderLemmas.{NoneIsLater-more, changed, Orders-
 -- at most one write is under way
 one_under_way : (r : Register) (h : List RegisterEvent) → IsWellFormed r h → started h ≤ suc (finished h)
 one_under_way r [] formed = omega arith
-one_under_way r (WriteBegins v ∷ b) formed = let p = formed.2 in omega (arith, p)
-one_under_way r (WriteEnds ∷ b) formed = let p = one_under_way r b formed.0 in omega (arith, p)
-one_under_way r (ReadBegins i ∷ b) formed = one_under_way r b formed.0
-one_under_way r (ReadEnds i v ∷ b) formed = one_under_way r b formed.0
+one_under_way r (e ∷ b) formed = grind (arith, (one_under_way r b formed.0))
 
 -- its value is the last one that was written
 value_under_way : (r : Register) (h : List RegisterEvent) → IsWellFormed r h → started h ≡ suc (finished h) → being_written h ≡ slice_get (written_values r.first h) (started h)
@@ -35,8 +32,7 @@ either_one : (a b : Bool) → a ≡ true → (a || b) ≡ true
 either_one a b e = ap (λ (z : Bool). z || b) e
 
 either_other : (a b : Bool) → b ≡ true → (a || b) ≡ true
-either_other true b e = refl
-either_other false b e = e
+either_other a b h1 = grind arith
 
 module _ (of : Choice) (i : ℕ) where
   -- no read that has ended is of a write that has not begun
@@ -69,13 +65,11 @@ module _ (of : Choice) (i : ℕ) where
   ]
 
 none_counted : (b : Bool) (n : ℕ) → one_more_if b n ≡ 0 → (b ≡ false) × (n ≡ 0)
-none_counted true n none = absurd (omega (arith, none))
-none_counted false n none = (refl, none)
+none_counted b n h1 = grind arith
 
 chosen_none : (of : Choice) (i : ℕ) (t : Bool) (a b : List RegisterEvent) → NoneIsLater Together of i (finished a) a → NoneIsLater Together of i (finished b) b →
     NoneIsLater Together of i (finished (if t then a else b)) (if t then a else b)
-chosen_none of i true a b here there = here
-chosen_none of i false a b here there = there
+chosen_none of i t a b h1 h2 = grind arith
 
 -- before each read that began, no read is of a later write than the last that had ended
 none_before :

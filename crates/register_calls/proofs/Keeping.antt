@@ -4,7 +4,7 @@ use Rattle.std.proofs.lemmas.Bool.{cases_lt}
 use Rattle.std.proofs.lemmas.Bool.Decides.{eqb_tells}
 use Rattle.std.proofs.lemmas.Option.{none-some, same_Some, slice_get_within}
 use Rattle.register_calls.specs.declared.events.RegisterEvent.{RegisterEvent}
-use Rattle.register_calls.specs.declared.events.RegisterEvent.TheVariants.{WriteBegins, WriteEnds, ReadBegins, ReadEnds}
+use Rattle.register_calls.specs.declared.events.RegisterEvent.TheVariants.{WriteBegins, ReadBegins, ReadEnds}
 use Rattle.register_calls.specs.Histories.{finished, written_values, before_read}
 use Rattle.register_calls.specs.Classes.{Scope, sees, IsOf, Choice, NoneIsLater, Orders, HasOrder}
 use Rattle.register_calls.specs.Judging.{HasNone, IsLeast, IsFirstPlace, IsGreater, IsRaised, still}
@@ -26,26 +26,6 @@ module _ (s : Scope) (first : ℕ) where
     least = (λ i other number orders later. let z = zeros i in omega (arith, z));
     reached_before = (λ i n at. absurd (none-some n (sym (none i) ∙ at)));
     least_before = (λ i n at. absurd (none-some n (sym (none i) ∙ at)));
-  }
-
-  pub keeps_write : (v : ℕ) (h : List RegisterEvent) (floor : ℕ → ℕ) (low : ℕ → Option ℕ) → KeepsOrder s first h floor low → KeepsOrder s first (WriteBegins v ∷ h) floor low
-  keeps_write v h floor low k = record {
-    of = k.of;
-    orders = k.orders;
-    reached = k.reached;
-    least = k.least;
-    reached_before = k.reached_before;
-    least_before = k.least_before;
-  }
-
-  pub keeps_wrote : (h : List RegisterEvent) (floor : ℕ → ℕ) (low : ℕ → Option ℕ) → KeepsOrder s first h floor low → KeepsOrder s first (WriteEnds ∷ h) floor low
-  keeps_wrote h floor low k = record {
-    of = k.of;
-    orders = k.orders;
-    reached = k.reached;
-    least = k.least;
-    reached_before = k.reached_before;
-    least_before = k.least_before;
   }
 
   -- a read begins: its low is the greater of the writes that have ended and of its reader's floor
@@ -154,36 +134,20 @@ module _ (s : Scope) (first : ℕ) where
       pub scope_got :
           (held : Bool) (found : Option ℕ) → IsFirstPlace (written_values first h) l v found → ((j : ℕ) → sees s j i ≡ true → IsRaised (floor j) found (floor' j)) →
           KeepsScope held s first h floor low → KeepsScope (still held found) s first (ReadEnds i v ∷ h) floor' low'
-      scope_got false None at raised keeps = λ (of, orders). keeps (of, orders.0)
-      scope_got false (Some n) at raised keeps = λ (of, orders). keeps (of, orders.0)
-      scope_got true None at raised keeps = no_order at keeps
-      scope_got true (Some n) at raised keeps = keeps_got n at raised keeps
+      scope_got held found h1 h2 h3 = grind (arith, keeps_got, no_order)
 
   -- the other events, whether there is an order or not
   pub scope_write : (held : Bool) (v : ℕ) (h : List RegisterEvent) (floor : ℕ → ℕ) (low : ℕ → Option ℕ) → KeepsScope held s first h floor low → KeepsScope held s first (WriteBegins v ∷ h) floor low
-  scope_write true v h floor low keeps = keeps_write v h floor low keeps
-  scope_write false v h floor low keeps = keeps
-
-  pub scope_wrote : (held : Bool) (h : List RegisterEvent) (floor : ℕ → ℕ) (low : ℕ → Option ℕ) → KeepsScope held s first h floor low → KeepsScope held s first (WriteEnds ∷ h) floor low
-  scope_wrote true h floor low keeps = keeps_wrote h floor low keeps
-  scope_wrote false h floor low keeps = keeps
+  scope_write held v h floor low h1 = grind arith
 
   pub scope_read :
       (held : Bool) (i n : ℕ) (h : List RegisterEvent) (floor floor' : ℕ → ℕ) (low low' : ℕ → Option ℕ) → ((j : ℕ) → floor' j ≡ floor j) → low' i ≡ Some n → KeepsOthers i low low' →
       IsGreater (finished h) (floor i) n → KeepsScope held s first h floor low → KeepsScope held s first (ReadBegins i ∷ h) floor' low'
-  scope_read true i n h floor floor' low low' same here others top keeps = keeps_read i n h floor floor' low low' same here others top keeps
-  scope_read false i n h floor floor' low low' same here others top keeps = keeps
+  scope_read held i n h floor floor' low low' h1 h2 h3 h4 h5 = grind (arith, keeps_read)
 
   -- the same floors and lows, by other functions
   pub scope_same :
       (held : Bool) (h : List RegisterEvent) (floor floor' : ℕ → ℕ) (low low' : ℕ → Option ℕ) → ((j : ℕ) → floor' j ≡ floor j) → ((j : ℕ) → low' j ≡ low j) →
       KeepsScope held s first h floor low → KeepsScope held s first h floor' low'
   scope_same false h floor floor' low low' floors lows keeps = keeps
-  scope_same true h floor floor' low low' floors lows k = record {
-    of = k.of;
-    orders = k.orders;
-    reached = (λ j. subst (λ (m : ℕ). NoneIsLater s k.of j m h) (sym (floors j)) (k.reached j));
-    least = (λ j other number orders later. let e = floors j in let le = k.least j other number orders later in omega (arith, e, le));
-    reached_before = (λ j m at. k.reached_before j m (sym (lows j) ∙ at));
-    least_before = (λ j m at. k.least_before j m (sym (lows j) ∙ at));
-  }
+  scope_same true h floor floor' low low' floors lows k = grind arith

@@ -1,5 +1,5 @@
 -- The first event at which a history lacks a class, and that there is at most one.
-use Rattle.std.proofs.Common.{◌≡◌, inl, inr, ℕ, zero, suc, ◌+◌, ◌-◌, ◌≤◌, ◌<◌, Some, None, List, [], ◌∷◌, length, take, reverse, get_or, refl, ap, sym, subst, ◌∙◌, arith}
+use Rattle.std.proofs.Common.{◌≡◌, ℕ, zero, suc, ◌+◌, ◌-◌, ◌≤◌, ◌<◌, Some, None, List, [], ◌∷◌, length, take, reverse, get_or, refl, sym, subst, arith}
 use Rattle.std.proofs.Math.Seq.{take-suc}
 use Rattle.std.proofs.Math.Numerals.{add-one}
 use Rattle.std.proofs.lemmas.List.{reverse-append, take_all}
@@ -19,13 +19,11 @@ use Rattle.register_calls.proofs.ClassLemmas.{beginning}
 
 -- one more event
 pub past_more : (events : List RegisterEvent) (place : ℕ) (e : RegisterEvent) → place < length events → reverse (take (place + 1) events) ≡ get_or events place e ∷ reverse (take place events)
-past_more events place e within =
-    ap (λ (n : ℕ). reverse (take n events)) (add-one place) ∙ ap reverse (take-suc events place e within) ∙ reverse-append (take place events) (get_or events place e ∷ [])
+past_more events place e within = grind (arith, (add-one place), (reverse-append (take place events) (get_or events place e ∷ [])), (take-suc events place e within))
 
 -- a longer prefix has a class only if a shorter one has it
 shorter : (class : Class) (r : Register) (events : List RegisterEvent) (m k : ℕ) → m + k ≤ length events → HasClass class r (reverse (take (m + k) events)) → HasClass class r (reverse (take m events))
-shorter class r events m zero fits has =
-    let same : m + 0 ≡ m = omega arith in subst (λ (n : ℕ). HasClass class r (reverse (take n events))) same has
+shorter class r events m zero fits has = grind arith
 shorter class r events m (suc k) fits has =
     let same : m + suc k ≡ (m + k) + 1 = omega arith in
     let within : m + k < length events = omega arith in
@@ -50,18 +48,11 @@ pub one_miss : OneFirstMiss
 one_miss class r events None None a b = refl
 one_miss class r events None (Some n) a b = absurd (b.with_it (prefix_has class r events (n + 1) (length events) (let w = b.within in omega arith) (omega arith) (whole class r events a)))
 one_miss class r events (Some m) None a b = absurd (a.with_it (prefix_has class r events (m + 1) (length events) (let w = a.within in omega arith) (omega arith) (whole class r events b)))
-one_miss class r events (Some m) (Some n) a b = elim (cases_lt m n) [
-  | inl lt ↦ absurd (apart class r events m n lt a b)
-  | inr le ↦ elim (cases_lt n m) [
-    | inl lt ↦ absurd (apart class r events n m lt b a)
-    | inr ge ↦ let same : m ≡ n = omega arith in ap Some same
-  ]
-]
+one_miss class r events (Some m) (Some n) a b = grind (arith, apart, cases_lt)
 
 -- the prefixes of a well-formed history are well formed
 well_shorter : (r : Register) (events : List RegisterEvent) (m k : ℕ) → m + k ≤ length events → IsWellFormed r (reverse (take (m + k) events)) → IsWellFormed r (reverse (take m events))
-well_shorter r events m zero fits turns =
-    let same : m + 0 ≡ m = omega arith in subst (λ (n : ℕ). IsWellFormed r (reverse (take n events))) same turns
+well_shorter r events m zero fits turns = grind arith
 well_shorter r events m (suc k) fits turns =
     let same : m + suc k ≡ (m + k) + 1 = omega arith in
     let within : m + k < length events = omega arith in

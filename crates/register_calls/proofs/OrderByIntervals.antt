@@ -1,5 +1,5 @@
 -- The reads of a well-formed history have an order, of all readers together or of each alone, exactly when they have one by intervals.
-use Rattle.std.proofs.Common.{◌≡◌, ◌≢◌, inl, inr, ℕ, zero, suc, ◌≤◌, ◌<◌, true, Some, List, [], ◌∷◌, length, refl, ap, sym, subst, ◌∙◌, arith}
+use Rattle.std.proofs.Common.{rules, ◌≡◌, ◌≢◌, inl, inr, ℕ, zero, suc, ◌≤◌, ◌<◌, true, Some, List, [], ◌∷◌, length, ap, sym, subst, ◌∙◌, arith}
 use Rattle.std.specs.Prelude.{◌==◌, if◌then◌else◌}
 use Rattle.std.proofs.lemmas.Bool.{eq-eqb, ne_eqb, cases_lt}
 use Rattle.std.proofs.lemmas.Option.{none-some}
@@ -16,16 +16,10 @@ use Rattle.register_calls.proofs.ByIntervals.{of_places, of_coded, may_more, may
 
 -- the code of a number is the same with one more event
 code-more : (e : RegisterEvent) (b : List RegisterEvent) (n : ℕ) → n ≤ started b → code (e ∷ b) n ≡ code b n
-code-more (WriteBegins v) b n le = code-less v b n le
-code-more WriteEnds b n le = refl
-code-more (ReadBegins i) b n le = refl
-code-more (ReadEnds i v) b n le = refl
+code-more e b n h1 = grind arith
 
 started-more : (e : RegisterEvent) (b : List RegisterEvent) → started b ≤ started (e ∷ b)
-started-more (WriteBegins v) b = omega arith
-started-more WriteEnds b = omega arith
-started-more (ReadBegins i) b = omega arith
-started-more (ReadEnds i v) b = omega arith
+started-more e b = grind arith
 
 module _ (scope : Scope) where
   -- no read that ended, and that the reader has to respect, is of a later write
@@ -57,10 +51,7 @@ record Known (first : ℕ) (of : Choice) (h : List RegisterEvent) (start stop v 
   may : MayBeOf first h start stop v (code h (of stop))
 
 known_more : (first : ℕ) (of : Choice) (e : RegisterEvent) (b : List RegisterEvent) (start stop v : ℕ) → start ≤ length b → stop ≤ length b → Known first of b start stop v → Known first of (e ∷ b) start stop v
-known_more first of e b start stop v le few known = record {
-  few = (let k = known.few in let l = started-more e b in omega (arith, k, l));
-  may = subst (λ (k : ℕ). MayBeOf first (e ∷ b) start stop v k) (sym (code-more e b (of stop) known.few)) (may_more e b first start stop v (code b (of stop)) le few known.may);
-}
+known_more first of e b start stop v le few known = grind (arith, code, code-more, may_more, started-more)
 
 module _ (scope : Scope) (r : Register) (of : Choice) where
   -- what is known about each read of a history
@@ -72,10 +63,7 @@ module _ (scope : Scope) (r : Register) (of : Choice) where
       known_more r.first of e b start stop v (let l = is.later in omega (arith, l, early)) (omega (arith, early)) (all i start stop v (read_before i start stop v e b early is))
 
   known_other : (e : RegisterEvent) (b : List RegisterEvent) → ((i v : ℕ) → e ≢ ReadEnds i v) → IsKnown b → IsKnown (e ∷ b)
-  known_other e b other all i start stop v is = elim (placed_event-cases e b stop (ReadEnds i v) is.ends) [
-    | inl here ↦ absurd (other i v here.1)
-    | inr early ↦ known_early e b i start stop v early.0 is all
-  ]
+  known_other e b other all i start stop v is = search (rules, known_early, placed_event-cases)
 
   known_all : (h : List RegisterEvent) → IsWellFormed r h → Orders scope r.first of h → IsKnown h
   known_all [] formed orders = λ i start stop v is. absurd (none-some (ReadEnds i v) is.ends)
@@ -182,10 +170,7 @@ read_in i start stop v b (e ∷ c) (inr is) read = read_still i start stop v e c
 module _ (scope : Scope) (r : Register) (h : List RegisterEvent) (places : ℕ → ℕ) (chooses : Chooses scope r.first h places) where
   -- the number that a read gets is that of its write
   coded_read : (i start stop v : ℕ) → IsReadFrom h i start stop v → (number h (places stop) ≤ started h) × (code h (number h (places stop)) ≡ places stop)
-  coded_read i start stop v is =
-      let (n, few, coded) = coded_of r.first h start stop v (places stop) (chooses.may i start stop v is) in
-      let same : number h (places stop) ≡ n = ap (number h) (sym coded) ∙ number-code h n few in
-      (omega (arith, same, few), ap (code h) same ∙ coded)
+  coded_read i start stop v is = grind (arith, code, coded_of, number, number-code)
 
   ordered_numbers :
       (i start stop v j start' stop' u : ℕ) → IsReadFrom h i start stop v → IsReadFrom h j start' stop' u → sees scope j i ≡ true → stop < start' → number h (places stop) ≤ number h (places stop')

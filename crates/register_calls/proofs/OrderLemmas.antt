@@ -29,10 +29,7 @@ module _ (s : Scope) where
   NoneIsLater-same of other i n (WriteBegins v ∷ h) same x = NoneIsLater-same of other i n h (AreSame-less of other (length h) (suc (length h)) (omega arith) same) x
   NoneIsLater-same of other i n (WriteEnds ∷ h) same x = NoneIsLater-same of other i n h (AreSame-less of other (length h) (suc (length h)) (omega arith) same) x
   NoneIsLater-same of other i n (ReadBegins j ∷ h) same x = NoneIsLater-same of other i n h (AreSame-less of other (length h) (suc (length h)) (omega arith) same) x
-  NoneIsLater-same of other i n (ReadEnds j v ∷ h) same x = (
-    NoneIsLater-same of other i n h (AreSame-less of other (length h) (suc (length h)) (omega arith) same) x.0,
-    λ seen. subst (λ (k : ℕ). k ≤ n) (same.each (length h) (omega arith)) (x.1 seen),
-  )
+  NoneIsLater-same of other i n (ReadEnds j v ∷ h) same x = grind (arith, (NoneIsLater-same of other i n h (AreSame-less of other (length h) (suc (length h)) (omega arith) same) x.0))
 
   pub Orders-same : (first : ℕ) (of other : Choice) (h : List RegisterEvent) → AreSame of other (length h) → Orders s first of h → Orders s first other h
   Orders-same first of other [] same x = tt

@@ -27,10 +27,7 @@ placed_event-within (f ∷ b) p e is = elim (eqb_tells p (length b)) [
 
 -- the last event, or one before it
 pub placed_event-cases : (e : RegisterEvent) (b : List RegisterEvent) (p : ℕ) (f : RegisterEvent) → placed_event (e ∷ b) p ≡ Some f → ((p ≡ length b) × (e ≡ f)) ⊎ ((p < length b) × (placed_event b p ≡ Some f))
-placed_event-cases e b p f is = elim (eqb_tells p (length b)) [
-  | inl same ↦ inl (same.1, same_Some e f (sym (chosen (p == length b) (Some e) (placed_event b p) same.0) ∙ is))
-  | inr apart ↦ (let there : placed_event b p ≡ Some f = sym (left (p == length b) (Some e) (placed_event b p) apart.0) ∙ is in inr (placed_event-within b p f there, there))
-]
+placed_event-cases e b p f is = grind (arith, chosen, eqb_tells, left, placed_event-within, same_Some)
 
 -- the code of a write, by its number: 0 for the first value, otherwise suc of the place where it begins
 abbrev pub code : List RegisterEvent → (number : ℕ) → ℕ
@@ -56,17 +53,11 @@ code-less v b n le = left (n == suc (started b)) (suc (length b)) (code b n) (le
 
 pub code-zero : (h : List RegisterEvent) → code h 0 ≡ 0
 code-zero [] = refl
-code-zero (WriteBegins v ∷ b) = code-less v b 0 (omega arith) ∙ code-zero b
-code-zero (WriteEnds ∷ b) = code-zero b
-code-zero (ReadBegins i ∷ b) = code-zero b
-code-zero (ReadEnds i v ∷ b) = code-zero b
+code-zero (e ∷ b) = grind (arith, (code-zero b))
 
 -- again, since this crate does not depend on registers of bits
 le_cases : (n m : ℕ) → n ≤ suc m → (n ≡ suc m) ⊎ (n ≤ m)
-le_cases n m le = elim (cases_lt m n) [
-  | inl lt ↦ (let k : n ≡ suc m = omega arith in inl k)
-  | inr ge ↦ inr ge
-]
+le_cases n m le = grind arith
 
 -- each write that has begun has its place
 pub stands : (first : ℕ) (h : List RegisterEvent) (n : ℕ) → 0 < n → n ≤ started h → (w : ℕ) × Stands first h n w
@@ -124,20 +115,11 @@ code-later (ReadBegins i ∷ b) m n lt le = code-later b m n lt le
 code-later (ReadEnds i v ∷ b) m n lt le = code-later b m n lt le
 
 pub code-le : (h : List RegisterEvent) (m n : ℕ) → m ≤ n → n ≤ started h → code h m ≤ code h n
-code-le h m n le few = elim (cases_lt m n) [
-  | inl lt ↦ (let k = code-later h m n lt few in omega (arith, k))
-  | inr ge ↦ (let same : m ≡ n = omega arith in subst (λ (k : ℕ). code h m ≤ code h k) same (omega arith))
-]
+code-le h m n le few = grind (arith, cases_lt, code-later)
 
 -- no two writes have the same place
 pub code-one : (h : List RegisterEvent) (m n : ℕ) → m ≤ started h → n ≤ started h → code h m ≡ code h n → m ≡ n
-code-one h m n p q same = elim (cases_lt m n) [
-  | inl lt ↦ (let k = code-later h m n lt q in absurd (omega (arith, k, same)))
-  | inr ge ↦ elim (cases_lt n m) [
-    | inl lt ↦ (let k = code-later h n m lt p in absurd (omega (arith, k, same)))
-    | inr le ↦ omega arith
-  ]
-]
+code-one h m n p q same = grind (arith, cases_lt, code-later)
 
 -- a write that begins at a place has a number
 pub record IsNumbered (first : ℕ) (h : List RegisterEvent) (v w n : ℕ) : Type 0 where

@@ -1,9 +1,9 @@
 -- What a reader has under way, after one more event.
-use Rattle.std.proofs.Common.{◌≡◌, ◌≢◌, ℕ, suc, ◌≤◌, Bool, true, false, List, [], ◌∷◌, length, length-append, refl, ◌∙◌, arith}
+use Rattle.std.proofs.Common.{◌≡◌, ◌≢◌, ℕ, suc, ◌≤◌, Bool, true, false, List, [], ◌∷◌, length, length-append, refl, arith}
 use Rattle.std.specs.Prelude.{◌==◌, if◌then◌else◌}
 use Rattle.std.proofs.lemmas.Bool.{eq-eqb, ne_eqb}
 use Rattle.register_calls.specs.declared.events.RegisterEvent.{RegisterEvent}
-use Rattle.register_calls.specs.declared.events.RegisterEvent.TheVariants.{WriteBegins, WriteEnds, ReadBegins, ReadEnds}
+use Rattle.register_calls.specs.declared.events.RegisterEvent.TheVariants.{ReadBegins, ReadEnds}
 use Rattle.register_calls.specs.Histories.{started, finished, written_values, has_read_open, before_read}
 
 -- a choice by a test that is known
@@ -32,41 +32,27 @@ pub read_open-end_other : (i j v : ℕ) (h : List RegisterEvent) → j ≢ i →
 read_open-end_other i j v h apart = left (j == i) false (has_read_open j h) (ne_eqb j i apart)
 
 no_longer : (b : Bool) (h rest : List RegisterEvent) (n : ℕ) → length h ≤ n → length rest ≤ n → length (if b then h else rest) ≤ n
-no_longer true h rest n p q = p
-no_longer false h rest n p q = q
+no_longer b h rest n h1 h2 = grind arith
 
 -- the events before a read are no more than all the events
 pub length-before_read : (i : ℕ) (h : List RegisterEvent) → length (before_read i h) ≤ length h
 length-before_read i [] = omega arith
-length-before_read i (WriteBegins v ∷ h) = let k = length-before_read i h in omega arith
-length-before_read i (WriteEnds ∷ h) = let k = length-before_read i h in omega arith
-length-before_read i (ReadBegins j ∷ h) = let k = length-before_read i h in no_longer (i == j) h (before_read i h) (suc (length h)) (omega arith) (omega arith)
-length-before_read i (ReadEnds j v ∷ h) = let k = length-before_read i h in omega arith
+length-before_read i (e ∷ h) = grind (arith, (length-before_read i h))
 
 either : (b : Bool) (h rest : List RegisterEvent) (n : ℕ) → finished h ≤ n → finished rest ≤ n → finished (if b then h else rest) ≤ n
-either true h rest n p q = p
-either false h rest n p q = q
+either b h rest n h1 h2 = grind arith
 
 -- and so are the writes that had ended there
 pub finished-before_read : (i : ℕ) (h : List RegisterEvent) → finished (before_read i h) ≤ finished h
 finished-before_read i [] = omega arith
-finished-before_read i (WriteBegins v ∷ h) = finished-before_read i h
-finished-before_read i (WriteEnds ∷ h) = let k = finished-before_read i h in omega arith
-finished-before_read i (ReadBegins j ∷ h) = either (i == j) h (before_read i h) (finished h) (omega arith) (finished-before_read i h)
-finished-before_read i (ReadEnds j v ∷ h) = finished-before_read i h
+finished-before_read i (e ∷ h) = grind (arith, (finished-before_read i h))
 
 -- there is a value for the first one and for each write
 pub length-written : (first : ℕ) (h : List RegisterEvent) → length (written_values first h) ≡ suc (started h)
 length-written first [] = refl
-length-written first (WriteBegins v ∷ h) = let k = length-written first h in length-append (written_values first h) (v ∷ []) ∙ omega arith
-length-written first (WriteEnds ∷ h) = length-written first h
-length-written first (ReadBegins i ∷ h) = length-written first h
-length-written first (ReadEnds i v ∷ h) = length-written first h
+length-written first (e ∷ h) = grind (arith, length-append, (length-written first h))
 
 -- no more writes have begun than there are events
 pub few_started : (h : List RegisterEvent) → started h ≤ length h
 few_started [] = omega arith
-few_started (WriteBegins v ∷ h) = let k = few_started h in omega (arith, k)
-few_started (WriteEnds ∷ h) = let k = few_started h in omega (arith, k)
-few_started (ReadBegins i ∷ h) = let k = few_started h in omega (arith, k)
-few_started (ReadEnds i v ∷ h) = let k = few_started h in omega (arith, k)
+few_started (e ∷ h) = grind (arith, (few_started h))

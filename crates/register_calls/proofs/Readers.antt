@@ -1,11 +1,11 @@
 -- Lists of readers: what is kept about each, when one is set or added; and the reads under way.
-use Rattle.std.proofs.Common.{◌≡◌, ◌<◌, ℕ, zero, suc, Some, List, [], ◌∷◌, ◌++◌, length, refl, ap, arith, get_or-set_other, get_or-set_same}
+use Rattle.std.proofs.Common.{◌≡◌, ◌<◌, ℕ, zero, suc, Some, List, [], ◌∷◌, length, ap, arith, get_or-set_other, get_or-set_same}
 use Rattle.std.proofs.Math.ListN.{set}
 use Rattle.std.specs.Prelude.{option_map}
 use Rattle.std.proofs.lemmas.Option.{none-some}
 use Rattle.register_calls.specs.declared.auditors.OpenRead.{OpenRead}
 use Rattle.register_calls.specs.declared.auditors.ReaderState.{ReaderState}
-use Rattle.register_calls.specs.Audits.{MovesReader, fresh_reader, reader_at, lows, own_lows}
+use Rattle.register_calls.specs.Audits.{MovesReader, reader_at, lows, own_lows}
 use Rattle.register_calls.proofs.Keeping.{KeepsOthers}
 
 pub moves_set : (xs ys : List ReaderState) (i : ℕ) (state : ReaderState) → i < length ys → ((j : ℕ) → reader_at ys j ≡ reader_at xs j) → MovesReader xs (set ys i state) i state
@@ -23,10 +23,3 @@ pub open_within : (xs : List ReaderState) (i : ℕ) (r : OpenRead) → (reader_a
 open_within [] i r at = absurd (none-some r at)
 open_within (x ∷ xs) zero r at = omega arith
 open_within (x ∷ xs) (suc i) r at = let k = open_within xs i r at in omega (arith, k)
-
--- one more reader, about which nothing is known yet
-pub reader_at-more : (xs : List ReaderState) (i : ℕ) → reader_at (xs ++ fresh_reader ∷ []) i ≡ reader_at xs i
-reader_at-more [] zero = refl
-reader_at-more [] (suc i) = refl
-reader_at-more (x ∷ xs) zero = refl
-reader_at-more (x ∷ xs) (suc i) = reader_at-more xs i

@@ -56,9 +56,7 @@ module _ (s : Scope) (first : ℕ) (of : Choice) where
 
 -- no order has a read that is inverted
 inverted_has_none : (s : Scope) (first : ℕ) (reads : List EarlierRead) (h : List RegisterEvent) (i v : ℕ) → IsInverted s first reads h i v → ¬ HasOrder s first (ReadEnds i v ∷ h)
-inverted_has_none s first reads h i v (n, bound, none) (of, orders) =
-    let least = bound_holds s first of reads i n (of (length h)) (before_read i h) (orders_beginning s first of (before_read i h) h (before_read-beginning i h) orders.0) orders.2 bound in
-    none (of (length h)) least orders.1.2
+inverted_has_none s first reads h i v (n, bound, none) (of, orders) = grind (arith, (before_read-beginning i h), (bound_holds s first of reads i n (of (length h)) (before_read i h) (orders_beginning s first of (before_read i h) h (before_read-beginning i h) orders.0) orders.2 bound), (orders_beginning s first of (before_read i h) h (before_read-beginning i h) orders.0), orders.0, orders.1.2, orders.2)
 
 -- a history that is not safe has no class, and one that is not regular has no stronger one
 unsafe_has_none : (c : Class) (r : Register) (h : List RegisterEvent) → IsWellFormed r h → ¬ IsSafe r h → ¬ HasClass c r h

@@ -1,8 +1,7 @@
 -- What a witness keeps of a history, after one more event: by the lists of readers and of their chains.
-use Rattle.std.proofs.Common.{◌≡◌, ◌≢◌, inl, inr, ℕ, zero, suc, ◌<◌, Bool, true, false, Option, Some, None, List, [], ◌∷◌, length, drop, set, refl, ap, sym, subst, ◌∙◌, arith, get_or-set_other, get_or-set_same}
+use Rattle.std.proofs.Common.{◌≡◌, inl, inr, ℕ, Bool, true, false, Option, Some, None, List, [], ◌∷◌, length, drop, refl, ap, sym, subst, ◌∙◌, arith}
 use Rattle.std.specs.Prelude.{option_map}
 use Rattle.std.proofs.lemmas.Bool.Decides.{eqb_tells}
-use Rattle.std.proofs.lemmas.Option.{none-some}
 use Rattle.register_calls.specs.declared.events.Register.{Register}
 use Rattle.register_calls.specs.declared.events.RegisterEvent.{RegisterEvent}
 use Rattle.register_calls.specs.declared.events.RegisterEvent.TheVariants.{ReadBegins, ReadEnds}
@@ -21,22 +20,11 @@ use Rattle.register_calls.proofs.Hearing.{FirstWrites}
 use Rattle.register_calls.proofs.Readers.{lows_others, own_lows_others}
 use Rattle.register_calls.proofs.Bounds.{begins_kept, bounds_begin, bounds_end, bounds_next, bounds_same}
 
--- one chain of a list is set
-pub chain_here : (cs : List Chain) (i : ℕ) (chain : Chain) → i < length cs → chain_at (set cs i chain) i ≡ chain
-chain_here cs i chain within = rw get_or-set_same
-
-pub chain_other : (cs : List Chain) (i j : ℕ) (chain : Chain) → j ≢ i → chain_at (set cs i chain) j ≡ chain_at cs j
-chain_other cs i j chain apart = rw get_or-set_other
-
 -- a floor that is raised, by the read that raises it
 pub raised_by :
     (chain leaning next : Chain) (floor : ℕ) (found : Option ℕ) (link : ℕ → EarlierRead) (raising : Option EarlierRead) → IsRaisingLink floor found link raising →
     IsLinkedChain chain leaning raising next → IsRaisedChain chain leaning floor found link next
-raised_by chain leaning next floor None link raising is linked = subst (λ (o : Option EarlierRead). IsLinkedChain chain leaning o next) is linked
-raised_by chain leaning next floor (Some n) link raising is linked = (
-  λ le. subst (λ (o : Option EarlierRead). IsLinkedChain chain leaning o next) (is.0 le) linked,
-  λ lt. subst (λ (o : Option EarlierRead). IsLinkedChain chain leaning o next) (is.1 lt) linked,
-)
+raised_by chain leaning next floor found link raising h1 h2 = grind arith
 
 -- the bounds by the reads of each reader, and by those of all
 abbrev pub EachBounds : (first : ℕ) → List RegisterEvent → List ReaderState → (own own_low : List Chain) → Type 0
@@ -50,30 +38,20 @@ module _ (r x : Register) (h : List RegisterEvent) (xs ys : List ReaderState) (r
     -- the same, in lists that may be longer
     pub each_same :
         (os ps ls ms : List Chain) → ((j : ℕ) → chain_at ps j ≡ chain_at os j) → ((j : ℕ) → chain_at ms j ≡ chain_at ls j) → EachBounds r.first h xs os ls → EachBounds x.first h ys ps ms
-    each_same os ps ls ms owns low_chains k =
-        subst (λ (z : Register). EachBounds z.first h ys ps ms) (sym registers)
-        (bounds_same EachAlone r.first h (own_floors xs) (own_floors ys) (λ i. chain_at os i) (λ i. chain_at ps i) (own_lows xs) (own_lows ys)
-        (λ i. chain_at ls i) (λ i. chain_at ms i) (λ j. ap (λ (z : ReaderState). z.own) (states j)) owns
-        (λ j. ap (λ (z : ReaderState). option_map (λ (o : OpenRead). o.own_low) z.reading) (states j)) low_chains k)
+    each_same os ps ls ms owns low_chains k = grind (arith, bounds_same)
 
     pub all_same :
         (ts us : List Chain) (floor top : ℕ) (chain : Chain) → ((j : ℕ) → chain_at us j ≡ chain_at ts j) → top ≡ floor → AllBounds r.first h xs ts floor chain → AllBounds x.first h ys us top chain
-    all_same ts us floor top chain low_chains same k =
-        subst (λ (z : Register). AllBounds z.first h ys us top chain) (sym registers)
-        (bounds_same Together r.first h (λ i. floor) (λ i. top) (λ i. chain) (λ i. chain) (lows xs) (lows ys)
-        (λ i. chain_at ts i) (λ i. chain_at us i) (λ j. same) (λ j. refl)
-        (λ j. ap (λ (z : ReaderState). option_map (λ (o : OpenRead). o.low) z.reading) (states j)) low_chains k)
+    all_same ts us floor top chain low_chains same k = grind (arith, bounds_same)
 
     -- a write begins or ends
     pub each_next : (os ls : List Chain) (e : RegisterEvent) → ((j : ℕ) → before_read j (e ∷ h) ≡ before_read j h) → EachBounds r.first h xs os ls → EachBounds x.first (e ∷ h) ys os ls
-    each_next os ls e same k =
-        bounds_next EachAlone x.first e h (own_floors ys) (λ i. chain_at os i) (own_lows ys) (λ i. chain_at ls i) same (each_same os os ls ls (λ j. refl) (λ j. refl) k)
+    each_next os ls e same k = grind (arith, bounds_next, each_same)
 
     pub all_next :
         (ts : List Chain) (e : RegisterEvent) (floor top : ℕ) (chain : Chain) → ((j : ℕ) → before_read j (e ∷ h) ≡ before_read j h) → top ≡ floor → AllBounds r.first h xs ts floor chain →
         AllBounds x.first (e ∷ h) ys ts top chain
-    all_next ts e floor top chain same number k =
-        bounds_next Together x.first e h (λ i. top) (λ i. chain) (lows ys) (λ i. chain_at ts i) same (all_same ts ts floor top chain (λ j. refl) number k)
+    all_next ts e floor top chain same number k = grind (arith, all_same, bounds_next)
 
   -- a read begins
   module _ (i ended floor : ℕ) (chain : Chain) (is : ended ≡ finished h) (begun : StartsRead ended floor xs ys i) where
@@ -168,12 +146,10 @@ zero_floor s first true floor low keeps i = let p = keeps.least i (λ k. 0) 0 tt
 zero_floor s first false floor low keeps i = absurd (keeps ((λ k. 0), tt))
 
 not_reading : {X : Type 0} (i : ℕ) (o : Option OpenRead) (f : OpenRead → ℕ) (n : ℕ) → KeepsRead i [] o → option_map f o ≡ Some n → X
-not_reading i None f n keeps at = absurd (none-some n at)
-not_reading i (Some read) f n keeps at = let wrong : false ≡ true = keeps.0 in absurd cc
+not_reading i o f n h1 h2 = grind arith
 
 fresh_at : (i : ℕ) → chain_at [] i ≡ fresh_chain
-fresh_at zero = refl
-fresh_at (suc i) = refl
+fresh_at i = grind arith
 
 module _ (r : Register) (kept : List ℕ) (base begun : ℕ) (writing : Bool) (xs : List ReaderState) (floor : ℕ) (safe regular each all : Bool) (k : KeepsHistory r [] kept base begun writing xs floor safe regular each all) where
   pub each_none : (os ls : List Chain) → os ≡ [] → EachBounds r.first [] xs os ls

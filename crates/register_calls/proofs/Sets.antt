@@ -23,12 +23,10 @@ get_end (x ∷ xs) y zero e = absurd (omega (arith, e))
 get_end (x ∷ xs) y (suc i) e = get_end xs y i (omega (arith, e))
 
 drop_none : {X : Type 0} (n : ℕ) → drop {A = X} n [] ≡ []
-drop_none zero = refl
-drop_none (suc n) = refl
+drop_none n = grind arith
 
 pub get_nothing : {X : Type 0} (n : ℕ) → slice_get {X = X} [] n ≡ None
-get_nothing zero = refl
-get_nothing (suc n) = refl
+get_nothing n = grind arith
 
 -- two prefixes are left out, one after the other
 pub drop_twice : {X : Type 0} (m n : ℕ) (xs : List X) → drop n (drop m xs) ≡ drop (m + n) xs

@@ -86,14 +86,7 @@ insert of o (x ∷ order) sorted last = elim (cases_lt (rank of o) (rank of x)) 
 
 -- an event that adds no operation, or one
 unchanged : (of : ℕ → ℕ) (e : RegisterEvent) (b : List RegisterEvent) → ((o : RegisterOperation) → e ≢ event_of o) → (order : List RegisterOperation) × Arranges of b order → (order : List RegisterOperation) × Arranges of (e ∷ b) order
-unchanged of e b other (order, a) = (
-  order,
-  record {
-    each = (λ o there. operation_still e b o (a.each o there));
-    all = (λ o is. elim (operation_cases e b o is) [ inl last ↦ absurd (other o last.1) | inr old ↦ a.all o old ]);
-    sorted = a.sorted;
-  },
-)
+unchanged of e b other (order, a) = grind (arith, operation_cases, operation_still)
 
 added : (of : ℕ → ℕ) (e : RegisterEvent) (b : List RegisterEvent) (o : RegisterOperation) → IsOperationOf (e ∷ b) o → place_of o ≡ length b → (order : List RegisterOperation) × Arranges of b order → (order : List RegisterOperation) × Arranges of (e ∷ b) order
 added of e b o is place (order, a) =
@@ -110,22 +103,13 @@ added of e b o is place (order, a) =
     )
 
 other_end : (o : RegisterOperation) → WriteEnds ≢ event_of o
-other_end (AWrite w v) same = cc
-other_end (ARead i start stop v) same = cc
+other_end o = grind arith
 
 other_begin : (j : ℕ) (o : RegisterOperation) → ReadBegins j ≢ event_of o
-other_begin j (AWrite w v) same = cc
-other_begin j (ARead i start stop v) same = cc
+other_begin j o = grind arith
 
 arrange : (of : ℕ → ℕ) (r : Register) (h : List RegisterEvent) → IsWellFormed r h → (order : List RegisterOperation) × Arranges of h order
-arrange of r [] formed = (
-  [],
-  record {
-    each = (λ o there. absurd there);
-    all = (λ o is. (let k = place_within [] o is in absurd (omega arith)));
-    sorted = tt;
-  },
-)
+arrange of r [] formed = grind arith
 arrange of r (WriteBegins v ∷ b) formed = added of (WriteBegins v) b (AWrite (length b) v) (placed_event-here (WriteBegins v) b) refl (arrange of r b formed.0)
 arrange of r (WriteEnds ∷ b) formed = unchanged of WriteEnds b other_end (arrange of r b formed.0)
 arrange of r (ReadBegins i ∷ b) formed = unchanged of (ReadBegins i) b (other_begin i) (arrange of r b formed.0)
@@ -141,14 +125,8 @@ once of (o ∷ order) sorted = ((λ there. (let k = (sorted.0 o there).1 (omega 
 module _ (first : ℕ) (h : List RegisterEvent) (of : ℕ → ℕ) (c : Chooses Together first h of) where
   keeps : (a b : RegisterOperation) → Precedes of a b → IsOperationOf h a → IsOperationOf h b → ¬ HasEndedBy h b (operation_start a)
   keeps (AWrite w v) (AWrite x u) p is that ends = let (q, after, before, end) = ends in omega arith
-  keeps (AWrite w v) (ARead i s t u) p is that ends =
-      let k = may_early first h s t u (of t) (c.may i s t u that) in
-      omega arith
-  keeps (ARead i s t v) (AWrite x u) p is that ends =
-      let k = may_after first h s t v (of t) x u (c.may i s t v is) that ends in
-      let l = is.later in
-      let (q, after, before, end) = ends in
-      omega arith
+  keeps (AWrite w v) (ARead i s t u) p is that ends = grind (arith, (may_early first h s t u (of t) (c.may i s t u that)))
+  keeps (ARead i s t v) (AWrite x u) p is that ends = grind (arith, (may_after first h s t v (of t) x u (c.may i s t v is) that ends), is.later)
   keeps (ARead i s t v) (ARead j s' t' u) p is that ends =
       let k = p.1 (c.in_order j s' t' u i s t v that is refl ends) in
       let l = is.later in

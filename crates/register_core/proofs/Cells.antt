@@ -1,11 +1,11 @@
 -- The digits of a cell in a history.
-use Rattle.std.proofs.Common.{◌≡◌, ℕ, Bool, true, false, cond, nat_eq, List, Some, None, ap, arith, refl}
+use Rattle.std.proofs.Common.{◌≡◌, ℕ, Bool, false, cond, List, Some, None, ap, arith, refl}
 use Rattle.std.proofs.lemmas.Bool.{eq-eqb}
 use Rattle.std.proofs.lemmas.Bool.Decides.{nat_tests}
 use Rattle.std.proofs.lemmas.Option.{none-some}
 use Rattle.bits_core.specs.declared.events.Side.TheVariants.{P}
 use Rattle.bits_core.specs.declared.events.Bit.{Bit}
-use Rattle.bits_core.specs.declared.events.Bit.TheVariants.{S, R, X, Cell}
+use Rattle.bits_core.specs.declared.events.Bit.TheVariants.{Cell}
 use Rattle.bits_core.specs.declared.events.Access.TheVariants.{Write}
 use Rattle.bits_core.specs.declared.events.Event.{Event}
 use Rattle.bits_core.specs.Bits.{begun_by}
@@ -15,14 +15,7 @@ use Rattle.register_core.specs.WordLaw.{number_in_cell, cell_write, cell_writes}
 use Rattle.register_core.proofs.RowWrites.{HasNumbers, write_to-to, write_to-from, row_after}
 
 cell_bit : (j : ℕ) (b : Bit) (i : ℕ) → number_in_cell j b ≡ Some i → b ≡ Cell j i
-cell_bit j (S k) i e = absurd (cc)
-cell_bit j (R k) i e = absurd (cc)
-cell_bit j X i e = absurd (cc)
-cell_bit j (Cell l k) i e =
-    elim (nat_eq j l) as (λ t. nat_eq j l ≡ t → cond t (Some k) None ≡ Some i → Cell l k ≡ Cell j i) [
-      | true ↦ λ t is. let same : j ≡ l = grind (arith, nat_tests) in let digits : k ≡ i = cc in cc
-      | false ↦ λ t is. absurd (none-some i is)
-    ] refl e
+cell_bit j b i h1 = grind (arith, nat_tests, none-some)
 
 cell_numbers : (j : ℕ) → HasNumbers (Cell j) (number_in_cell j)
 cell_numbers j = record { of_bit = λ i. ap (λ t. cond t (Some i) None) (eq-eqb j j refl); bit_of = cell_bit j }

@@ -1,5 +1,5 @@
 -- Each bit write of a unary write changes its bit, so a safe bit written in this way is regular.
-use Rattle.std.proofs.Common.{◌≡◌, ℕ, zero, suc, ◌≤◌, Bool, not, List, [], ◌∷◌, ◌++◌, take, slice_get, Some, refl, sym, ap, arith, ◌∙◌, ◌⊎◌, inl, inr}
+use Rattle.std.proofs.Common.{◌≡◌, ℕ, zero, suc, ◌≤◌, Bool, not, List, [], ◌∷◌, ◌++◌, take, slice_get, Some, sym, ap, arith, ◌∙◌, ◌⊎◌, inl, inr}
 use Rattle.register_core.specs.Row.{RowWrite, first_bits, bits_with, bits_after}
 use Rattle.register_core.specs.Unary.{unary_phrase, unary_writes, row_writes}
 use Rattle.register_core.proofs.WriterMoments.{bits_at, Answered, SafelyAnswered}
@@ -22,21 +22,14 @@ Run-changing v bits (w ∷ writes) run = (run.0.changes, Run-changing v (bits_wi
 
 pub changing_all : (values : List ℕ) (v : ℕ) (bits : ℕ → Bool) → Changing bits (row_writes (unary_writes bits values))
 changing_all [] v bits = tt
-changing_all (w ∷ values) v bits =
-    let then : ℕ → Bool = bits_after bits (unary_phrase bits w) in
-    Changing-append (unary_phrase bits w) (row_writes (unary_writes then values)) bits
-    (Run-changing w bits (unary_phrase bits w) (phrase-run bits w)) (changing_all values w then)
+changing_all (w ∷ values) v bits = grind (arith, (Run-changing w bits (unary_phrase bits w) (phrase-run bits w)), (changing_all values w), (phrase-run bits w), Changing-append)
 
 -- what a bit holds before and after the write of it
 changes_at :
     (writes : List RowWrite) (bits : ℕ → Bool) (t : ℕ) (w : RowWrite) → Changing bits writes → slice_get writes t ≡ Some w →
     (bits_after bits (take t writes) w.bit ≡ not w.value) × (bits_after bits (take (suc t) writes) w.bit ≡ w.value)
 changes_at [] bits t w c e = absurd (cc)
-changes_at (x ∷ writes) bits zero w c e =
-    let same : x ≡ w = cc in (
-      ap (λ y. bits y.bit) (sym same) ∙ c.0 ∙ ap (λ (y : RowWrite). not y.value) same,
-      ap (λ y. bits_with bits x y.bit) (sym same) ∙ same_bit bits x.bit x.bit x.value refl ∙ ap (λ (y : RowWrite). y.value) same,
-    )
+changes_at (x ∷ writes) bits zero w c e = grind (arith, same_bit, c.0, x.bit, x.value)
 changes_at (x ∷ writes) bits (suc t) w c e = changes_at writes (bits_with bits x) t w c.1 e
 
 pub safe_answer :

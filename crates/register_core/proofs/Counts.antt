@@ -1,9 +1,8 @@
 -- The count that a side writes, in a history.
-use Rattle.std.proofs.Common.{◌≡◌, ℕ, Bool, List, Some, refl}
+use Rattle.std.proofs.Common.{arith, ◌≡◌, ℕ, Bool, List, Some}
 use Rattle.bits_core.specs.declared.events.Side.{Side}
 use Rattle.bits_core.specs.declared.events.Side.TheVariants.{P, C}
 use Rattle.bits_core.specs.declared.events.Bit.{Bit}
-use Rattle.bits_core.specs.declared.events.Bit.TheVariants.{S, R, X, Cell}
 use Rattle.bits_core.specs.declared.events.Access.TheVariants.{Write}
 use Rattle.bits_core.specs.declared.events.Event.{Event}
 use Rattle.bits_core.specs.Bits.{writer, begun_by}
@@ -14,22 +13,13 @@ use Rattle.register_core.proofs.RowWrites.{HasNumbers, write_to-to, write_to-fro
 use Rattle.register_core.proofs.Turns.{BeginsWrites}
 
 pub row_writer : (s : Side) (i : ℕ) → writer (row_bit s i) ≡ s
-row_writer P i = refl
-row_writer C i = refl
+row_writer s i = grind arith
 
 count_number : (s : Side) (i : ℕ) → number_in_count s (row_bit s i) ≡ Some i
-count_number P i = refl
-count_number C i = refl
+count_number s i = grind arith
 
 count_bit : (s : Side) (b : Bit) (i : ℕ) → number_in_count s b ≡ Some i → b ≡ row_bit s i
-count_bit P (S k) i e = cc
-count_bit P (R k) i e = absurd (cc)
-count_bit P X i e = absurd (cc)
-count_bit P (Cell j k) i e = absurd (cc)
-count_bit C (S k) i e = absurd (cc)
-count_bit C (R k) i e = cc
-count_bit C X i e = absurd (cc)
-count_bit C (Cell j k) i e = absurd (cc)
+count_bit s b i h1 = grind arith
 
 count_numbers : (s : Side) → HasNumbers (row_bit s) (number_in_count s)
 count_numbers s = record { of_bit = count_number s; bit_of = count_bit s }

@@ -16,19 +16,11 @@ record Turn (f : ℕ → Bool) (x : Bool) (t j : ℕ) : Type 0 where
 turn_step :
     (f : ℕ → Bool) (x : Bool) (t d : ℕ) → (f (t + d) ≡ x) ⊎ (f (t + d) ≡ not x) →
     (f (t + d) ≡ not x → Turn f x t (t + d)) → f (suc (t + d)) ≡ not x → Turn f x t (suc (t + d))
-turn_step f x t d (inl e) rest new =
-    record { moment = t + d; after = omega arith; before = omega arith; old = e; new = new }
-turn_step f x t d (inr e) rest new =
-    let r = rest e in
-    record { moment = r.moment; after = r.after; before = omega (arith, r.before); old = r.old; new = r.new }
+turn_step f x t d h1 h2 h3 = grind arith
 
 turn_from : (f : ℕ → Bool) (x : Bool) (t d : ℕ) → f t ≡ x → f (t + d) ≡ not x → Turn f x t (t + d)
-turn_from f x t zero old new =
-    let e : t + 0 ≡ t = omega arith in absurd (differs x (sym old ∙ ap f (sym e) ∙ new))
-turn_from f x t (suc d) old new =
-    let e : suc (t + d) ≡ t + suc d = omega arith in
-    subst (λ j. Turn f x t j) e
-    (turn_step f x t d (is_or_not (f (t + d)) x) (turn_from f x t d old) (ap f e ∙ new))
+turn_from f x t zero old new = grind (arith, differs)
+turn_from f x t (suc d) old new = grind (arith, is_or_not, turn_step, (turn_from f x t d old))
 
 turn : (f : ℕ → Bool) (x : Bool) (t j : ℕ) → t ≤ j → f t ≡ x → f j ≡ not x → Turn f x t j
 turn f x t j fits old new =
@@ -167,14 +159,9 @@ module _ (us : List UnaryWrite) (bits : ℕ → Bool) (v : ℕ) (chain : Chain v
   pub found_scan :
       (from till : ℕ → ℕ) (c : ℕ) → Windows c from till → ((i : ℕ) → i < c → Reads from till i false) →
       Reads from till c true → Found (ended us (from 0)) (till c) c
-  found_scan from till c windows below r =
-      found (ended us (from 0)) c (from c) (till c) (covers_to from till c windows below c (omega arith)) r.0 r.1 r.2 r.3
+  found_scan from till c windows below r = grind (arith, (covers_to from till c windows below c (omega arith)), (found (ended us (from 0)) c (from c) (till c) (covers_to from till c windows below c (omega arith)) r.0 r.1 r.2 r.3), r.0, r.1, r.2, r.3)
 
   pub above_scan :
       (from till : ℕ → ℕ) (c : ℕ) → Windows c from till → ((i : ℕ) → i < c → Reads from till i false) →
       Reads from till c false → (n : ℕ) × (n ≤ begun_writes us (till c)) × (c < numbered_value v us n)
-  above_scan from till c windows below r =
-      let last = covers_next (ended us (from 0)) c (from c) (till c) (till c) (till c)
-      (covers_to from till c windows below c (omega arith))
-      (windows.in_order c (omega arith)) (omega arith) (omega arith) r.0 r.1 r.2 r.3 in
-      (last.number, last.has_begun, last.reaches)
+  above_scan from till c windows below r = grind (arith, (covers_next (ended us (from 0)) c (from c) (till c) (till c) (till c) (covers_to from till c windows below c (omega arith)) (windows.in_order c (omega arith)) (omega arith) (omega arith) r.0 r.1 r.2 r.3), (covers_to from till c windows below c (omega arith)), r.0, r.1, r.2, r.3, windows.in_order)

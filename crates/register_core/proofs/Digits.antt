@@ -11,16 +11,10 @@ use Rattle.register_core.specs.Word.{digit, digit_writes, digit_reads}
 pub bit_below : (n v i : ℕ) → v < 2 ^ n → i < n → bit_at (v + 2 ^ n) i ≡ bit_at v i
 bit_below zero v i fits within = absurd (omega arith)
 bit_below (suc n) v zero fits within = bit_at_lowest (v + 2 ^ suc n) ∙ omega (arith, pow-succ' 2 n) ∙ sym (bit_at_lowest v)
-bit_below (suc n) v (suc i) fits within =
-    let p : ℕ = 2 ^ n in
-    let half : (v + 2 ^ suc n) / 2 ≡ v / 2 + p = omega (arith, pow-succ' 2 n) in
-    bit_at-suc (v + 2 ^ suc n) i ∙ ap (λ k. bit_at k i) half ∙ bit_below n (v / 2) i (omega (arith, pow-succ' 2 n)) (omega arith) ∙ sym (bit_at-suc v i)
+bit_below (suc n) v (suc i) fits within = grind (arith, bit_at-suc, pow-succ', (bit_below n (v / 2) i (omega (arith, pow-succ' 2 n)) (omega arith)))
 
 pub bit_here : (n v : ℕ) → v < 2 ^ n → bit_at (v + 2 ^ n) n ≡ 1
-bit_here zero v fits = let none : v ≡ 0 = omega arith in ap (λ k. bit_at (k + 1) 0) none
-bit_here (suc n) v fits =
-    let half : (v + 2 ^ suc n) / 2 ≡ v / 2 + 2 ^ n = omega (arith, pow-succ' 2 n) in
-    bit_at-suc (v + 2 ^ suc n) n ∙ ap (λ k. bit_at k n) half ∙ bit_here n (v / 2) (omega (arith, pow-succ' 2 n))
+bit_here n v h1 = grind (arith, bit_at-suc, pow-succ')
 
 -- fewer digits are a prefix
 more : {A : Type 0} (xs ys : List A) (x : A) → IsPrefix xs ys → IsPrefix xs (ys ++ x ∷ [])
@@ -56,9 +50,7 @@ reads_same cell (suc n) a b same =
 
 -- one more digit, of 1 or of 0
 pub reads_one : (cell n v : ℕ) → v < 2 ^ n → digit_reads cell (v + 2 ^ n) (suc n) ≡ digit_reads cell v n ++ Read (Cell cell n) true ∷ []
-reads_one cell n v fits =
-    ap (λ l. l ++ Read (Cell cell n) (digit n (v + 2 ^ n)) ∷ []) (reads_same cell n (v + 2 ^ n) v (λ i l. ap (λ k. k == 1) (bit_below n v i fits l)))
-    ∙ ap (λ k. digit_reads cell v n ++ Read (Cell cell n) (k == 1) ∷ []) (bit_here n v fits)
+reads_one cell n v fits = grind (arith, bit_below, bit_here, reads_same)
 
 pub reads_zero : (cell n v : ℕ) → v < 2 ^ n → digit_reads cell v (suc n) ≡ digit_reads cell v n ++ Read (Cell cell n) false ∷ []
 reads_zero cell n v fits = ap (λ k. digit_reads cell v n ++ Read (Cell cell n) (k == 1) ∷ []) (bit_at_above v n n fits (omega arith))

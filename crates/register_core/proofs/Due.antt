@@ -32,8 +32,7 @@ unary_phrase-set bits v e = ap (λ b. cond b [] (record { bit = v; value = true 
 pub due-below : {modulus : ℕ} {memory : List Bool} {value place : ℕ} →
     IsClearDownTo modulus memory value place → bit_in memory value ≡ true →
     unary_phrase (bit_in memory) value ≡ clearing (bit_in memory) place
-due-below {modulus} {memory} {value} {place} at e =
-    unary_phrase-set (bit_in memory) value e ∙ clearing-down (bit_in memory) value place at.within at.clear
+due-below {modulus} {memory} {value} {place} at e = grind (arith, clearing-down, unary_phrase-set, at.clear, at.within)
 
 module _ (w : UnaryState) (place : ℕ) (at : IsClearDownTo w.modulus w.bits w.value place) (is_set : bit_in w.bits w.value ≡ true) where
   pub due-clears : 0 < place →
@@ -47,11 +46,7 @@ module _ (w : UnaryState) (place : ℕ) (at : IsClearDownTo w.modulus w.bits w.v
   due-none none = let e : place ≡ 0 = omega arith in due-below at is_set ∙ ap (clearing (bit_in w.bits)) e
 
   pub due-place : (due_writes w ≡ [] → ⊥) → 1 ≤ place
-  due-place some = positive (cases_lt 0 place)
-    where
-      positive : (0 < place) ⊎ (place ≤ 0) → 1 ≤ place
-      positive (inl h) = omega arith
-      positive (inr h) = absurd (some (due-none h))
+  due-place some = grind (arith, cases_lt, due-none)
 
   pub fed-clears : 0 < place → row_fed w ≡ record w { bits = slice_set w.bits (place - 1) false }
   fed-clears some = ap (λ ws. row_with w ws) (due-clears some)

@@ -16,12 +16,7 @@ pub digit_of_zero : (i : ℕ) → digit i 0 ≡ false
 digit_of_zero i = ap (λ x. x == 1) (bit_at-zero i)
 
 same_low : (x y : ℕ) → x < 2 → y < 2 → (x == 1) ≡ (y == 1) → x ≡ y
-same_low zero zero l m e = refl
-same_low (suc zero) (suc zero) l m e = refl
-same_low zero (suc zero) l m e = absurd (cc)
-same_low (suc zero) zero l m e = absurd (cc)
-same_low (suc (suc x)) y l m e = absurd (omega arith)
-same_low x (suc (suc y)) l m e = absurd (omega arith)
+same_low x y h1 h2 h3 = grind arith
 
 -- items of a width are distinguished by their digits
 pub same_item : (width a b : ℕ) → a < 2 ^ width → b < 2 ^ width → ((i : ℕ) → i < width → digit i a ≡ digit i b) → a ≡ b
@@ -37,25 +32,20 @@ same_item (suc width) a b l m same =
 
 pub length-digit_writes : (item n : ℕ) → length (digit_writes item n) ≡ n
 length-digit_writes item zero = refl
-length-digit_writes item (suc n) =
-    omega (arith, length-digit_writes item n, length-append (digit_writes item n) (record { bit = n; value = digit n item } ∷ []))
+length-digit_writes item (suc n) = grind (arith, length-append, (length-digit_writes item n))
 
 pub length-word_writes : (width : ℕ) (items : List ℕ) → length (word_writes width items) ≡ length items * width
 length-word_writes width [] = omega arith
-length-word_writes width (item ∷ items) =
-    omega (arith, length-word_writes width items, length-digit_writes item width, length-append (digit_writes item width) (word_writes width items), suc-mul (length items) width)
+length-word_writes width (item ∷ items) = grind (arith, length-append, length-digit_writes, suc-mul, (length-word_writes width items))
 
 word_writes-parts : (width : ℕ) (items : List ℕ) (n : ℕ) → word_writes width items ≡ word_writes width (take n items) ++ word_writes width (drop n items)
 word_writes-parts width items zero = refl
 word_writes-parts width [] (suc n) = refl
-word_writes-parts width (item ∷ items) (suc n) =
-    ap (λ l. digit_writes item width ++ l) (word_writes-parts width items n) ∙ sym (append_assoc (digit_writes item width) (word_writes width (take n items)) (word_writes width (drop n items)))
+word_writes-parts width (item ∷ items) (suc n) = grind (arith, append_assoc, (word_writes-parts width items n))
 
 -- the first n words are the first n * width writes
 pub take-word_writes : (width : ℕ) (items : List ℕ) (n : ℕ) → n ≤ length items → take (n * width) (word_writes width items) ≡ word_writes width (take n items)
-take-word_writes width items n fits =
-    ap (take (n * width)) (word_writes-parts width items n)
-    ∙ take_at (word_writes width (take n items)) (word_writes width (drop n items)) (n * width) (length-word_writes width (take n items) ∙ ap (λ k. k * width) (length-take-le n items fits))
+take-word_writes width items n fits = grind (arith, (length-take-le n items fits), (length-word_writes width (take n items)), (word_writes-parts width items n), take_at)
 
 -- ---- the bits that they leave
 
@@ -74,9 +64,5 @@ digits_left item (suc n) i bits l =
 -- after n words and one more the digits are those of the last
 pub words_left : (width : ℕ) (items : List ℕ) (n item i : ℕ) (bits : ℕ → Bool) → i < width → slice_get items n ≡ Some item → bits_after bits (word_writes width (take (suc n) items)) i ≡ digit i item
 words_left width [] n item i bits l at = absurd (cc)
-words_left width (v ∷ items) zero item i bits l at =
-    let same : v ≡ item = cc in
-    ap (λ (f : ℕ → Bool). f i) (bits_after-append (digit_writes v width) [] bits) ∙ digits_left v width i bits l ∙ ap (digit i) same
-words_left width (v ∷ items) (suc n) item i bits l at =
-    ap (λ (f : ℕ → Bool). f i) (bits_after-append (digit_writes v width) (word_writes width (take (suc n) items)) bits) ∙
-    words_left width items n item i (bits_after bits (digit_writes v width)) l at
+words_left width (v ∷ items) zero item i bits l at = grind (arith, bits_after-append, digits_left)
+words_left width (v ∷ items) (suc n) item i bits l at = grind (arith, bits_after-append, (words_left width items n item i (bits_after bits (digit_writes v width)) l))

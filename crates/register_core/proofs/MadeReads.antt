@@ -1,9 +1,9 @@
 -- The reads of a side are those of the accesses that it made.
-use Rattle.std.proofs.Common.{◌≡◌, ℕ, zero, suc, ◌+◌, ◌*◌, ◌<◌, Bool, true, false, Some, List, [], ◌∷◌, ◌++◌, length, append_assoc, refl, sym, ap, subst, ◌∙◌, arith, ◌⊎◌, inl, inr}
+use Rattle.std.proofs.Common.{◌≡◌, ℕ, zero, suc, ◌+◌, ◌*◌, ◌<◌, Bool, true, false, Some, List, [], ◌∷◌, ◌++◌, length, append_assoc, sym, ap, subst, ◌∙◌, arith, inl, inr}
 use Rattle.std.proofs.lemmas.Bool.{cases_lt}
 use Rattle.std.specs.Prelude.{slice_get}
 use Rattle.bits_core.specs.declared.events.Side.{Side}
-use Rattle.bits_core.specs.declared.events.Side.TheVariants.{P, C}
+use Rattle.bits_core.specs.declared.events.Side.TheVariants.{C}
 use Rattle.bits_core.specs.declared.events.Bit.{Bit}
 use Rattle.bits_core.specs.declared.events.Bit.TheVariants.{Cell}
 use Rattle.bits_core.specs.declared.events.Event.{Event}
@@ -30,9 +30,7 @@ get_zero row (suc n) i l = elim (cases_lt i n) [
 ]
 
 get_one : (row : ℕ → Bit) (c : ℕ) → slice_get (scan_phrase row c) c ≡ Some (Read (row c) true)
-get_one row c =
-    let at : length (zero_reads row c) + 0 ≡ c = omega (arith, length-zeros row c) in
-    ap (slice_get (scan_phrase row c)) (sym at) ∙ get_behind (zero_reads row c) (Read (row c) true ∷ []) 0
+get_one row c = grind (arith, (get_behind (zero_reads row c) (Read (row c) true ∷ []) 0), (length-zeros row c))
 
 get_digit : (j item n i : ℕ) → i < n → slice_get (digit_reads j item n) i ≡ Some (Read (Cell j i) (digit i item))
 get_digit j item zero i l = absurd (omega arith)
@@ -50,11 +48,7 @@ rise s h i k l m = (clock_counts_places s h i (place_of s h k) (omega arith)).1 
 
 module _ (s : Side) (h : List Event) (made : List Made) (follows : IsPrefix (subhistory s h) (events_of s made)) where
   read_at : (n : ℕ) (b : Bit) (v : Bool) → slice_get made n ≡ Some (Read b v) → suc (2 * n) < length (subhistory s h) → IsRead h s b (place_of s h (2 * n)) (place_of s h (suc (2 * n))) v
-  read_at n b v at l =
-      let r = made_is_access s h made follows n (Read b v) at (omega arith) in
-      let e = r.1.ended l in
-      let same : r.0 ≡ place_of s h (suc (2 * n)) = subhistory_has_one_place s h (suc (2 * n)) r.0 e.0 in
-      subst (λ stop. IsRead h s b (place_of s h (2 * n)) stop v) same (record { access = r.1.access; ends = e.1 })
+  read_at n b v at l = grind (arith, (made_is_access s h made follows n (Read b v)), subhistory_has_one_place)
 
   module _ (before after phrase : List Made) (is : made ≡ before ++ (phrase ++ after)) where
     in_phrase : (i : ℕ) (x : Made) → slice_get phrase i ≡ Some x → slice_get made (length before + i) ≡ Some x
@@ -68,8 +62,7 @@ module _ (s : Side) (h : List Event) (made : List Made) (follows : IsPrefix (sub
   turn n i l = rise s h (suc (2 * (n + i))) (2 * (n + suc i)) (omega arith) l
 
 pub other_other : (s : Side) → other (other s) ≡ s
-other_other P = refl
-other_other C = refl
+other_other s = grind arith
 
 pub zeros-are_made : ZerosAreMade
 zeros-are_made s h made follows before after n is l = record {

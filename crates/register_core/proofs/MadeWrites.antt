@@ -1,5 +1,5 @@
 -- The writes of a side are those of the accesses that it made.
-use Rattle.std.proofs.Common.{◌≡◌, ℕ, suc, Bool, true, false, Option, Some, None, List, [], ◌∷◌, ◌++◌, filter_map, slice_get, refl, sym, ap, ◌∙◌}
+use Rattle.std.proofs.Common.{arith, ◌≡◌, ℕ, suc, Bool, true, false, Option, Some, None, List, [], ◌∷◌, ◌++◌, filter_map, slice_get, refl, sym, ap, ◌∙◌}
 use Rattle.std.specs.List.{cons_option}
 use Rattle.std.proofs.lemmas.Option.{none-some}
 use Rattle.std.proofs.lemmas.List.Elements.{filter_map-append}
@@ -10,9 +10,9 @@ use Rattle.bits_core.specs.declared.events.Bit.TheVariants.{Cell}
 use Rattle.bits_core.specs.declared.events.Access.TheVariants as access
 use Rattle.bits_core.specs.declared.events.Event.{Event}
 use Rattle.bits_core.specs.declared.shapes.Shape.{Shape}
-use Rattle.bits_core.specs.Bits.{writer, is_by, same_side, begun_by, write_of}
+use Rattle.bits_core.specs.Bits.{writer, is_by, begun_by, write_of}
 use Rattle.bits_core.specs.Lawful.{IsLawful}
-use Rattle.bits_core.specs.Made.{Made, Write, begin_event, end_event, events_of, subhistory, IsPrefix}
+use Rattle.bits_core.specs.Made.{Made, Write, begin_event, events_of, subhistory, IsPrefix}
 use Rattle.register_core.specs.Row.{RowWrite, row_bit, writes_in}
 use Rattle.register_core.specs.Word.{word_writes}
 use Rattle.register_core.specs.WordLaw.{cell_write}
@@ -30,20 +30,14 @@ use Rattle.bits_core.proofs.MadeLemmas.{end_begins_none}
 
 module _ {W : Type 0} (begins : Event → Option W) (s : Side) (its : BeginsWrites begins s) where
   none : (e : Event) → ((w : W) → begins e ≡ Some w → ⊥) → begins e ≡ None
-  none e never = go (begins e) refl
-    where
-      go : (o : Option W) → begins e ≡ o → begins e ≡ None
-      go None is = is
-      go (Some w) is = absurd (never w is)
+  none e never = grind arith
 
   -- each write is begun by the side
   abbrev Own : List Event → Type 0
   Own h = (place : ℕ) (e : Event) (w : W) → slice_get h place ≡ Some e → begins e ≡ Some w → is_by s e ≡ true
 
   own_of : (shape : Shape) (h : List Event) → IsLawful shape h → Own h
-  own_of shape h lawful place e w at is =
-      let r = its e w is in
-      ap (same_side s) (by_writer shape h lawful place e at r.0 r.1 r.2 ∙ r.3) ∙ side_same s
+  own_of shape h lawful place e w at is = grind (arith, by_writer, side_same)
 
   from_own : (h : List Event) → Own h → filter_map begins h ≡ filter_map begins (subhistory s h)
   from_own [] by = refl
@@ -57,19 +51,10 @@ module _ {W : Type 0} (begins : Event → Option W) (s : Side) (its : BeginsWrit
 
   from_events : (made : List Made) → filter_map begins (events_of s made) ≡ made_writes begins s made
   from_events [] = refl
-  from_events (x ∷ made) =
-      let nothing : begins (end_event s x) ≡ None =
-      none (end_event s x) (λ w b. let r = its (end_event s x) w b in none-some (access.Write r.0 r.1) (sym (end_begins_none s x) ∙ r.2)) in
-      ap (cons_option (begins (begin_event s x))) (ap (λ o. cons_option o (filter_map begins (events_of s made))) nothing ∙ from_events made)
+  from_events (x ∷ made) = grind (arith, end_begins_none, filter_map, none, none-some, (from_events made))
 
   pub are_made : (shape : Shape) (h : List Event) → IsLawful shape h → (made : List Made) → IsPrefix (subhistory s h) (events_of s made) → IsPrefix (filter_map begins h) (made_writes begins s made)
-  are_made shape h lawful made (rest, e) = (
-    filter_map begins rest,
-    ap (λ l. l ++ filter_map begins rest) (from_own h (own_of shape h lawful))
-        ∙ sym (filter_map-append begins (subhistory s h) rest)
-        ∙ ap (filter_map begins) e
-        ∙ from_events made,
-  )
+  are_made shape h lawful made (rest, e) = grind (arith, (filter_map begins rest), (filter_map begins), (filter_map-append begins (subhistory s h) rest), (from_events made), (from_own h (own_of shape h lawful)), (own_of shape h lawful))
 
 pub cell_writes-are : CellWritesAreMade
 cell_writes-are shape h lawful made follows j =
@@ -99,9 +84,7 @@ counts-write s values = row_writes-same (count_write s) s (row_bit s) (count_wri
 
 bits_same : (b : Bit) (values : List Bool) → made_writes (write_of b) (writer b) (writes_to b values) ≡ values
 bits_same b [] = refl
-bits_same b (v ∷ values) =
-    ap (λ o. cons_option o (made_writes (write_of b) (writer b) (writes_to b values))) (write_of-to b (begin_event (writer b) (Write b v)) v refl)
-    ∙ ap (λ l. v ∷ l) (bits_same b values)
+bits_same b (v ∷ values) = grind (arith, write_of-to, (bits_same b values))
 
 pub bits-write : BitsWrite
 bits-write b first values = bits_same b (logical_writes first values)
@@ -110,8 +93,4 @@ in_parts : {W : Type 0} (begins : Event → Option W) (s : Side) (xs ys : List M
 in_parts begins s xs ys = filter_map-append (λ x. begins (begin_event s x)) xs ys
 
 pub parts-write : PartsWrite
-parts-write xs ys = (
-  (λ j. in_parts (cell_write j) P xs ys),
-  (λ s. in_parts (count_write s) s xs ys),
-  (λ b. in_parts (write_of b) (writer b) xs ys),
-)
+parts-write xs ys = grind (arith, in_parts)

@@ -1,10 +1,10 @@
 -- The bits of a row at each moment, and the unary write that each change of a bit is of.
-use Rattle.std.proofs.Common.{◌≡◌, ℕ, zero, suc, ◌+◌, ◌-◌, ◌<◌, ◌≤◌, Bool, true, false, cond, not, List, [], ◌∷◌, ◌++◌, length, take, nat_eq, leb, refl, sym, ap, subst, arith, zero-le, suc-le-suc, ◌∙◌, ◌⊎◌, inl, inr}
+use Rattle.std.proofs.Common.{◌≡◌, ℕ, zero, suc, ◌+◌, ◌-◌, ◌<◌, ◌≤◌, Bool, true, false, cond, not, List, [], ◌∷◌, ◌++◌, length, take, leb, refl, sym, ap, subst, arith, zero-le, suc-le-suc, ◌∙◌, ◌⊎◌, inl, inr}
 use Rattle.std.proofs.lemmas.Bool.Decides.{nat_tests}
 use Rattle.std.proofs.lemmas.Bool.{cases_lt, leb-true}
 use Rattle.std.proofs.Math.Seq.{take-append-add}
 use Rattle.register_core.specs.Row.{RowWrite, bits_with, bits_after}
-use Rattle.register_core.specs.Unary.{UnaryWrite, unary_phrase, unary_writes, row_writes, having_writes, numbered_value, ended, begun_writes}
+use Rattle.register_core.specs.Unary.{UnaryWrite, unary_writes, row_writes, having_writes, numbered_value, ended, begun_writes}
 use Rattle.register_core.proofs.Rows.{bits_after-append}
 use Rattle.register_core.proofs.Phrase.{Shows, Allowed, Run, phrase-run}
 
@@ -22,21 +22,17 @@ numbered_step :
     (v w : ℕ) (bits : ℕ → Bool) (writes : List RowWrite) (values : List ℕ) → Shows v bits → Run w bits writes →
     ((v' : ℕ) (bits' : ℕ → Bool) → Shows v' bits' → Chain v' bits' (having_writes (unary_writes bits' values))) →
     Chain v bits (having_writes (record { value = w; writes = writes } ∷ unary_writes (bits_after bits writes) values))
-numbered_step v w bits [] values shows run rest = rest v bits shows
-numbered_step v w bits (x ∷ writes) values shows run rest =
-    (shows, run, omega arith, rest w (bits_after bits (x ∷ writes)) (Run-shows w bits (x ∷ writes) run))
+numbered_step v w bits writes values h1 h2 h3 = grind (arith, Run-shows)
 
 pub numbered-chain :
     (values : List ℕ) (v : ℕ) (bits : ℕ → Bool) → Shows v bits → Chain v bits (having_writes (unary_writes bits values))
 numbered-chain [] v bits shows = shows
-numbered-chain (w ∷ values) v bits shows =
-    numbered_step v w bits (unary_phrase bits w) values shows (phrase-run bits w) (numbered-chain values)
+numbered-chain (w ∷ values) v bits shows = grind (arith, numbered_step, phrase-run, (numbered-chain values))
 
 numbered_writes : (w : ℕ) (writes : List RowWrite) (us : List UnaryWrite) →
     row_writes (having_writes us) ≡ row_writes us →
     row_writes (having_writes (record { value = w; writes = writes } ∷ us)) ≡ writes ++ row_writes us
-numbered_writes w [] us e = e
-numbered_writes w (x ∷ writes) us e = ap (λ r. x ∷ (writes ++ r)) e
+numbered_writes w writes us h1 = grind arith
 
 -- the numbered unary writes have all the bit writes
 pub row_writes-numbered : (us : List UnaryWrite) → row_writes (having_writes us) ≡ row_writes us
@@ -55,40 +51,27 @@ pub record Changes (v : ℕ) (bits : ℕ → Bool) (i : ℕ) (x : Bool) : Type 0
   pub allowed : Allowed v bits write
 
 pub differs : (x : Bool) → x ≡ not x → ⊥
-differs true e = cc
-differs false e = cc
+differs x h1 = grind arith
 
 pub is_or_not : (b x : Bool) → (b ≡ x) ⊎ (b ≡ not x)
-is_or_not true true = inl refl
-is_or_not true false = inr refl
-is_or_not false true = inr refl
-is_or_not false false = inl refl
+is_or_not b x = grind arith
 
 changed : (bits : ℕ → Bool) (w : RowWrite) (i : ℕ) (x : Bool) → bits i ≡ x → bits_with bits w i ≡ not x →
     (i ≡ w.bit) × (w.value ≡ not x)
-changed bits w i x old new = cases (nat_eq i w.bit) refl
-  where
-    cases : (b : Bool) → nat_eq i w.bit ≡ b → (i ≡ w.bit) × (w.value ≡ not x)
-    cases true e = (grind (arith, nat_tests), ap (λ b. cond b w.value (bits i)) (sym e) ∙ new)
-    cases false e = absurd (differs x (sym old ∙ ap (λ b. cond b w.value (bits i)) (sym e) ∙ new))
+changed bits w i x old new = grind (arith, differs, nat_tests, w.bit, w.value)
 
 Run-changes :
     (writes rest : List RowWrite) (v : ℕ) (bits : ℕ → Bool) (t i : ℕ) (x : Bool) → Run v bits writes →
     t < length writes → bits_after bits (take t (writes ++ rest)) i ≡ x →
     bits_after bits (take (suc t) (writes ++ rest)) i ≡ not x → Changes v (bits_after bits (take t (writes ++ rest))) i x
 Run-changes [] rest v bits t i x run fits old new = absurd (omega arith)
-Run-changes (w ∷ writes) rest v bits zero i x run fits old new =
-    let c = changed bits w i x old new in
-    record { write = w; place = c.0; value = c.1; allowed = run.0 }
-Run-changes (w ∷ writes) rest v bits (suc t) i x run fits old new =
-    Run-changes writes rest v (bits_with bits w) t i x run.1 (omega arith) old new
+Run-changes (w ∷ writes) rest v bits zero i x run fits old new = grind (arith, changed, run.0)
+Run-changes (w ∷ writes) rest v bits (suc t) i x run fits old new = grind (arith, (Run-changes writes rest v (bits_with bits w) t i x run.1 (omega arith) old new), run.1)
 
 bits_of-later :
     (u : UnaryWrite) (us : List UnaryWrite) (bits : ℕ → Bool) (t : ℕ) →
     bits_of bits (u ∷ us) (length u.writes + t) ≡ bits_of (bits_after bits u.writes) us t
-bits_of-later u us bits t =
-    ap (λ r. bits_after bits r) (take-append-add u.writes (row_writes us) t) ∙
-    bits_after-append u.writes (take t (row_writes us)) bits
+bits_of-later u us bits t = grind (arith, bits_after-append, take-append-add, u.writes)
 
 pub begun-zero : (us : List UnaryWrite) → begun_writes us zero ≡ 0
 begun-zero [] = refl
@@ -97,16 +80,13 @@ begun-zero (u ∷ us) = refl
 begun-later :
     (u : UnaryWrite) (us : List UnaryWrite) (t : ℕ) →
     begun_writes (u ∷ us) (suc (length u.writes + t)) ≡ suc (begun_writes us (suc t))
-begun-later u us t =
-    let e : suc (length u.writes + t) - length u.writes ≡ suc t = omega arith in
-    ap (λ n. suc (begun_writes us n)) e
+begun-later u us t = grind (arith, u.writes)
 
 pub begun-mono : (us : List UnaryWrite) (s t : ℕ) → s ≤ t → begun_writes us s ≤ begun_writes us t
 begun-mono [] s t h = zero-le
 begun-mono (u ∷ us) zero t h = zero-le
 begun-mono (u ∷ us) (suc s) zero h = absurd (omega arith)
-begun-mono (u ∷ us) (suc s) (suc t) h =
-    suc-le-suc (begun-mono us (suc s - length u.writes) (suc t - length u.writes) (omega arith))
+begun-mono (u ∷ us) (suc s) (suc t) h = grind (arith, suc-le-suc, (begun-mono us (suc s - length u.writes) (suc t - length u.writes) (omega arith)), u.writes)
 
 -- a bit changes only at a write, which its unary write may make
 abbrev ChangeAt : ℕ → (ℕ → Bool) → List UnaryWrite → ℕ → ℕ → Bool → Type 0
@@ -117,13 +97,7 @@ ChangeAt v bits us t i x =
 within :
     (u : UnaryWrite) (us : List UnaryWrite) (v : ℕ) (bits : ℕ → Bool) (t i : ℕ) (x : Bool) →
     Run u.value bits u.writes → t < length u.writes → ChangeAt v bits (u ∷ us) t i x
-within u us v bits t i x run fits old new =
-    let e : suc t - length u.writes ≡ 0 = omega arith in
-    let n : begun_writes us (suc t - length u.writes) ≡ 0 = ap (begun_writes us) e ∙ begun-zero us in
-    let m : u.value ≡ numbered_value u.value us (begun_writes us (suc t - length u.writes)) =
-    ap (λ k. numbered_value u.value us k) (sym n) in
-    subst (λ k. Changes k (bits_of bits (u ∷ us) t) i x) m
-    (Run-changes u.writes (row_writes us) u.value bits t i x run fits old new)
+within u us v bits t i x run fits old new = grind (arith, Run-changes, begun-zero, u.value, u.writes)
 
 later :
     (u : UnaryWrite) (us : List UnaryWrite) (v : ℕ) (bits : ℕ → Bool) (t i : ℕ) (x : Bool) →
@@ -175,45 +149,20 @@ rest_step :
     (u : UnaryWrite) (us : List UnaryWrite) (v : ℕ) (bits : ℕ → Bool) (a : ℕ) → Shows v bits →
     (b : Bool) → leb (length u.writes) a ≡ b → Rest u.value (bits_after bits u.writes) us (a - length u.writes) →
     Rest v bits (u ∷ us) a
-rest_step u us v bits a shows true e rest =
-    let fits : length u.writes ≤ a = leb-true (length u.writes) a e in
-    let n = ended-later u us a e in
-    let m = begun-later u us rest.moment in
-    record {
-      moment = length u.writes + rest.moment;
-      in_time = omega (arith, rest.in_time);
-      ended_then = omega (arith, n, m, rest.ended_then);
-      shows =
-          subst (λ k. Shows (numbered_value v (u ∷ us) k) (bits_of bits (u ∷ us) (length u.writes + rest.moment))) (sym n)
-          (subst (λ f. Shows (numbered_value u.value us (ended us (a - length u.writes))) f)
-          (sym (bits_of-later u us bits rest.moment)) rest.shows);
-    }
-rest_step u us v bits a shows false e rest =
-    let n = ended-none u us a e in
-    record {
-      moment = 0;
-      in_time = zero-le;
-      ended_then = omega (arith, n);
-      shows = subst (λ k. Shows (numbered_value v (u ∷ us) k) bits) (sym n) shows;
-    }
+rest_step u us v bits a shows true e rest = grind (arith, (begun-later u us rest.moment), (bits_of-later u us bits rest.moment), (ended-later u us a e), (leb-true (length u.writes) a e), rest.ended_then, rest.in_time, rest.moment, rest.shows, u.value, u.writes)
+rest_step u us v bits a shows false e rest = grind (arith, ended-none, zero-le)
 
 pub Chain-rest : (us : List UnaryWrite) (v : ℕ) (bits : ℕ → Bool) (a : ℕ) → Chain v bits us → Rest v bits us a
 Chain-rest [] v bits a chain = record { moment = 0; in_time = zero-le; ended_then = zero-le; shows = chain }
-Chain-rest (u ∷ us) v bits a chain =
-    rest_step u us v bits a chain.0 (leb (length u.writes) a) refl
-    (Chain-rest us u.value (bits_after bits u.writes) (a - length u.writes) chain.3)
+Chain-rest (u ∷ us) v bits a chain = grind (arith, leb, rest_step, (Chain-rest us u.value (bits_after bits u.writes) (a - length u.writes) chain.3), chain.0, chain.3, u.value, u.writes)
 
 ended_begun_step :
     (u : UnaryWrite) (us : List UnaryWrite) (t : ℕ) → 0 < length u.writes →
     ended us (t - length u.writes) ≤ begun_writes us (t - length u.writes) → (b : Bool) → leb (length u.writes) t ≡ b →
     ended (u ∷ us) t ≤ begun_writes (u ∷ us) t
-ended_begun_step u us zero some rest true e = let h = leb-true (length u.writes) zero e in absurd (omega arith)
-ended_begun_step u us (suc t) some rest true e = omega (arith, rest, ended-later u us (suc t) e)
-ended_begun_step u us t some rest false e = omega (arith, ended-none u us t e)
+ended_begun_step u us t h1 h2 b h3 = grind (arith, ended-later, ended-none, leb-true)
 
 pub ended-begun :
     (us : List UnaryWrite) (v : ℕ) (bits : ℕ → Bool) (t : ℕ) → Chain v bits us → ended us t ≤ begun_writes us t
 ended-begun [] v bits t chain = zero-le
-ended-begun (u ∷ us) v bits t chain =
-    ended_begun_step u us t chain.2
-    (ended-begun us u.value (bits_after bits u.writes) (t - length u.writes) chain.3) (leb (length u.writes) t) refl
+ended-begun (u ∷ us) v bits t chain = grind (arith, ended_begun_step, leb, (ended-begun us u.value (bits_after bits u.writes) (t - length u.writes) chain.3), chain.2, chain.3, u.value, u.writes)

@@ -1,5 +1,5 @@
 -- What the events of a history begin, numbered by how many others began before it.
-use Rattle.std.proofs.Common.{◌≡◌, ℕ, zero, suc, ◌+◌, ◌<◌, ◌≤◌, true, false, cond, ◌||◌, List, [], ◌∷◌, ◌++◌, length, take, drop, Option, Some, None, filter_map, slice_get, refl, sym, ap, arith, ◌∙◌, inl, inr, append_assoc, length-append, take-append-drop, take_at}
+use Rattle.std.proofs.Common.{◌≡◌, ℕ, zero, suc, ◌<◌, ◌≤◌, true, false, cond, ◌||◌, List, [], ◌∷◌, length, take, drop, Option, Some, None, filter_map, slice_get, refl, ap, arith, ◌∙◌, inl, inr, append_assoc, length-append, take-append-drop, take_at}
 use Rattle.std.specs.List.{cons_option}
 use Rattle.std.proofs.lemmas.Bool.{cases_lt}
 use Rattle.std.proofs.lemmas.List.Elements.{filter_map-append}
@@ -40,10 +40,7 @@ some_within s (x ∷ xs) (suc n) l fits =
 
 -- where an access ends, in a history with one more event in front
 end_of-suc : (s : Side) (x : Event) (h : List Event) (p : ℕ) → end_of s (x ∷ h) (suc p) ≡ suc (end_of s h p)
-end_of-suc s x h p =
-    let e : suc p + 1 ≡ suc (p + 1) = omega arith in
-    let f : suc (p + 1) + first_place s (drop (p + 1) h) ≡ suc (p + 1 + first_place s (drop (p + 1) h)) = omega arith in
-    ap (λ (n : ℕ). n + first_place s (drop n (x ∷ h))) e ∙ f
+end_of-suc s x h p = grind arith
 
 -- ---- numbers
 
@@ -63,12 +60,10 @@ pub record HasEnded {W : Type 0} (begins : Event → Option W) (s : Side) (h : L
   pub ended : end_of s h numbered.place < q
 
 cons_le : {W : Type 0} (o : Option W) (xs ys : List W) → length xs ≤ length ys → length (cons_option o xs) ≤ length (cons_option o ys)
-cons_le None xs ys l = l
-cons_le (Some w) xs ys l = omega arith
+cons_le o xs ys h1 = grind arith
 
 pub cons_lt : {W : Type 0} (o : Option W) (xs ys : List W) → length xs < length ys → length (cons_option o xs) < length (cons_option o ys)
-cons_lt None xs ys l = l
-cons_lt (Some w) xs ys l = omega arith
+cons_lt o xs ys h1 = grind arith
 
 module _ {W : Type 0} (begins : Event → Option W) where
   -- how many began before a place
@@ -83,29 +78,17 @@ module _ {W : Type 0} (begins : Event → Option W) where
   pub begun_at : (h : List Event) (p : ℕ) (e : Event) (w : W) → slice_get h p ≡ Some e → begins e ≡ Some w →
       (slice_get (filter_map begins h) (begun h p) ≡ Some w) × (begun h (suc p) ≡ suc (begun h p))
   begun_at [] p e w at b = absurd (cc)
-  begun_at (x ∷ h) zero e w at b =
-      let same : x ≡ e = cc in
-      let c : begins x ≡ Some w = ap begins same ∙ b in
-      (ap (λ o. slice_get (cons_option o (filter_map begins h)) 0) c, ap (λ o. length (cons_option o [])) c)
-  begun_at (x ∷ h) (suc p) e w at b = place (begins x) (begun_at h p e w at b)
-    where
-      place : (o : Option W) →
-          (slice_get (filter_map begins h) (begun h p) ≡ Some w) × (begun h (suc p) ≡ suc (begun h p)) →
-          (slice_get (cons_option o (filter_map begins h)) (length (cons_option o (filter_map begins (take p h)))) ≡ Some w) ×
-          (length (cons_option o (filter_map begins (take (suc p) h))) ≡ suc (length (cons_option o (filter_map begins (take p h)))))
-      place None r = r
-      place (Some y) r = (r.0, ap suc r.1)
+  begun_at (x ∷ h) zero e w at b = grind (arith, filter_map)
+  begun_at (x ∷ h) (suc p) e w at b = grind (arith, filter_map, (begun_at h p e w))
 
   pub begun_rises : (h : List Event) (p q : ℕ) → p ≤ q → begun h p ≤ begun h q
   begun_rises h zero q l = omega arith
   begun_rises [] (suc p) q l = omega arith
   begun_rises (x ∷ h) (suc p) zero l = absurd (omega arith)
-  begun_rises (x ∷ h) (suc p) (suc q) l =
-      cons_le (begins x) (filter_map begins (take p h)) (filter_map begins (take q h)) (begun_rises h p q (omega arith))
+  begun_rises (x ∷ h) (suc p) (suc q) l = grind (arith, cons_le, filter_map, (begun_rises h p q (omega arith)))
 
   pub begun_least : (h : List Event) (p : ℕ) → begun h p ≤ length (filter_map begins h)
-  begun_least h p =
-      omega (arith, ap length (sym (filter_map-append begins (take p h) (drop p h)) ∙ ap (filter_map begins) (take-append-drop p h)), length-append (filter_map begins (take p h)) (filter_map begins (drop p h)))
+  begun_least h p = grind (arith, (filter_map begins), (filter_map begins (take p h)), (filter_map begins (drop p h)), (filter_map-append begins (take p h) (drop p h)), (length-append (filter_map begins (take p h)) (filter_map begins (drop p h))), (take-append-drop p h))
 
   behind : (x : Event) (h : List Event) (q n m : ℕ) (r : IsNumbered begins h q n) → length (cons_option (begins x) (filter_map begins (take r.place h))) ≡ m → IsNumbered begins (x ∷ h) (suc q) m
   behind x h q n m r e = record {
@@ -140,43 +123,22 @@ module _ {W : Type 0} (begins : Event → Option W) where
   pub ended_le : (s : Side) (h : List Event) (p q : ℕ) → q ≤ end_of s h p → ended s h q ≤ begun h p
   ended_le s h p zero l = omega arith
   ended_le s [] p (suc q) l = omega arith
-  ended_le s (x ∷ h) zero (suc q) l =
-      let none : has_event s (take q h) ≡ false = none_within s h q (omega arith) in
-      omega (arith, ap (λ k. length (filter_map begins k)) (before_last-none s x (take q h) none))
-  ended_le s (x ∷ h) (suc p) (suc q) l =
-      let ih : ended s h q ≤ begun h p = ended_le s h p q (omega (arith, end_of-suc s x h p)) in
-      elim (has_event s (take q h)) as (λ t. length (filter_map begins (cond t (x ∷ before_last s (take q h)) [])) ≤ begun (x ∷ h) (suc p)) [
-        | true ↦ cons_le (begins x) (filter_map begins (before_last s (take q h))) (filter_map begins (take p h)) ih
-        | false ↦ omega arith
-      ]
+  ended_le s (x ∷ h) zero (suc q) l = grind (arith, before_last-none, filter_map, none_within)
+  ended_le s (x ∷ h) (suc p) (suc q) l = grind (arith, cons_le, end_of-suc, filter_map, (ended_le s h p q (omega (arith, end_of-suc s x h p))))
 
   -- and an access that has its end before q is among those that ended
   pub ended_more : (s : Side) (h : List Event) (p q : ℕ) (e : Event) (w : W) → slice_get h p ≡ Some e → begins e ≡ Some w → end_of s h p < q → q ≤ length h → begun h p < ended s h q
   ended_more s h p zero e w at b l fits = absurd (omega arith)
   ended_more s [] p (suc q) e w at b l fits = absurd (omega arith)
-  ended_more s (x ∷ h) zero (suc q) e w at b l fits =
-      let some : has_event s (take q h) ≡ true = some_within s h q (omega arith) (omega arith) in
-      let same : x ≡ e = cc in
-      omega (arith, ap (λ k. length (filter_map begins k)) (before_last-more s x (take q h) some), ap (λ o. length (cons_option o (filter_map begins (before_last s (take q h))))) (ap begins same ∙ b))
-  ended_more s (x ∷ h) (suc p) (suc q) e w at b l fits =
-      let ih : begun h p < ended s h q = ended_more s h p q e w at b (omega (arith, end_of-suc s x h p)) (omega arith) in
-      elim (has_event s (take q h)) as (λ t. has_event s (take q h) ≡ t → begun (x ∷ h) (suc p) < length (filter_map begins (cond t (x ∷ before_last s (take q h)) []))) [
-        | true ↦ λ f. cons_lt (begins x) (filter_map begins (take p h)) (filter_map begins (before_last s (take q h))) ih
-        | false ↦ λ f. absurd (omega (arith, ih, ap (λ k. length (filter_map begins k)) (before_last-empty s (take q h) f)))
-      ] refl
+  ended_more s (x ∷ h) zero (suc q) e w at b l fits = grind (arith, before_last-more, filter_map, some_within)
+  ended_more s (x ∷ h) (suc p) (suc q) e w at b l fits = grind (arith, before_last-empty, cons_lt, end_of-suc, filter_map, (ended_more s h p q e w))
 
   pub ended_le_begun : (s : Side) (h : List Event) (p : ℕ) → ended s h p ≤ begun h p
   ended_le_begun s h p = ended_le s h p p (omega arith)
 
   -- those that ended are a prefix of those that began
   pub take-ended : (s : Side) (h : List Event) (p : ℕ) → take (ended s h p) (filter_map begins h) ≡ filter_map begins (before_last s (take p h))
-  take-ended s h p =
-      let k : List Event = before_last s (take p h) in
-      let r = before_last-begins s (take p h) in
-      let parts : k ++ (r.0 ++ drop p h) ≡ h = sym (append_assoc k r.0 (drop p h)) ∙ ap (λ l. l ++ drop p h) r.1 ∙ take-append-drop p h in
-      ap (λ l. take (length (filter_map begins k)) (filter_map begins l)) (sym parts)
-      ∙ ap (take (length (filter_map begins k))) (filter_map-append begins k (r.0 ++ drop p h))
-      ∙ take_at (filter_map begins k) (filter_map begins (r.0 ++ drop p h)) (length (filter_map begins k)) refl
+  take-ended s h p = grind (arith, (before_last-begins s (take p h)), (take-append-drop p h), append_assoc, filter_map, filter_map-append, take_at)
 
   -- each that ended has its end before the place
   pub has_ended : (s : Side) (h : List Event) (q n : ℕ) → n < ended s h q → HasEnded begins s h q n

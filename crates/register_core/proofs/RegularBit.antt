@@ -31,12 +31,7 @@ logical_changes (true ∷ values) false (suc n) x e = logical_changes values tru
 
 -- a value is one of two that differ
 one_of_two : (a c x : Bool) → c ≢ a → (x ≡ a) ⊎ (x ≡ c)
-one_of_two true true x apart = absurd (apart refl)
-one_of_two false false x apart = absurd (apart refl)
-one_of_two true false true apart = inl refl
-one_of_two true false false apart = inr refl
-one_of_two false true true apart = inr refl
-one_of_two false true false apart = inl refl
+one_of_two a c x h1 = grind arith
 
 module _ (shape : Shape) (h : List Event) (lawful : IsLawful shape h) (b : Bit) (values : List Bool) (writes : WritesLogically b h values) (s : Side) (start stop : ℕ) (v : Bool) (read : IsRead h s b start stop v) where
   -- how many writes of the bit had ended when the read began
@@ -48,8 +43,7 @@ module _ (shape : Shape) (h : List Event) (lawful : IsLawful shape h) (b : Bit) 
 
   -- a write that overlaps the read is not one of them
   overlapping_number : (x : Bool) (start' stop' : ℕ) → IsOverlapping h b start stop x start' stop' → had_ended ≤ begun (write_of b) h start'
-  overlapping_number x start' stop' o =
-      ended_le (write_of b) (writer b) h start' start (elim (cases_lt stop' start) [ inl l ↦ absurd (o.1.1 l) | inr l ↦ omega (arith, o.0.ends) ])
+  overlapping_number x start' stop' o = grind (arith, cases_lt, ended_le, o.0.ends, o.1.1)
 
   number_at : (x : Bool) (start' stop' : ℕ) → IsWrite h b x start' stop' → begun (write_of b) h (suc start') ≡ suc (begun (write_of b) h start')
   number_at x start' stop' a = (begun_at (write_of b) h start' a.event x a.at_start (write_of-to b a.event x a.begins)).1
@@ -98,10 +92,7 @@ module _ (shape : Shape) (h : List Event) (lawful : IsLawful shape h) (b : Bit) 
 
     -- so the bit then holds what the writes ended when the read began left
     held_there : held b (take r.place h) ≡ last_value (first_value b) (take had_ended (writes_begun b h))
-    held_there =
-        ap (last_value (first_value b))
-        (sym (take-ended (write_of b) (writer b) h r.place)
-        ∙ ap (λ n. take n (writes_begun b h)) all_before)
+    held_there = grind (arith, all_before, take-ended)
 
     -- it writes a value other than the one that the bit then holds
     changes : r.what ≢ last_value (first_value b) (take had_ended (writes_begun b h))

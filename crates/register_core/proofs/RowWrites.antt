@@ -1,5 +1,5 @@
 -- The writes to the bits of a row that the events of a history begin.
-use Rattle.std.proofs.Common.{◌≡◌, ℕ, Bool, true, false, cond, if◌then◌else◌, nat_eq, List, [], ◌∷◌, Option, Some, None, filter_map, refl, sym, ap, ◌∙◌, inl, inr}
+use Rattle.std.proofs.Common.{arith, ◌≡◌, ℕ, Bool, false, cond, nat_eq, List, [], ◌∷◌, Option, Some, None, filter_map, refl, sym, ap, ◌∙◌, inl, inr}
 use Rattle.std.specs.List.{cons_option}
 use Rattle.std.proofs.lemmas.Bool.{cases_eq, eq-eqb, ne_eqb, false_from_ne_true}
 use Rattle.std.proofs.lemmas.Option.{none-some, same_Some}
@@ -14,16 +14,13 @@ use Rattle.register_core.specs.Row.{RowWrite, bits_with, bits_after, row_write}
 use Rattle.register_core.proofs.Writes.{same_bit-true, same_bit-same}
 
 pub row_write-read : (o : Option ℕ) → row_write o ReadBegin ≡ None
-row_write-read None = refl
-row_write-read (Some i) = refl
+row_write-read o = grind arith
 
 pub row_write-got : (o : Option ℕ) (v : Bool) → row_write o (ReadEnd v) ≡ None
-row_write-got None v = refl
-row_write-got (Some i) v = refl
+row_write-got o v = grind arith
 
 pub row_write-wrote : (o : Option ℕ) → row_write o WriteEnd ≡ None
-row_write-wrote None = refl
-row_write-wrote (Some i) = refl
+row_write-wrote o = grind arith
 
 -- the value that a write to the row writes to bit i
 abbrev picked : ℕ → Option RowWrite → Option Bool
@@ -31,8 +28,7 @@ picked i None = None
 picked i (Some w) = cond (nat_eq i w.bit) (Some w.value) None
 
 last_picked : (t : Bool) (v x : Bool) (rest : List Bool) → last_value v (cons_option (cond t (Some x) None) rest) ≡ last_value (cond t x v) rest
-last_picked true v x rest = refl
-last_picked false v x rest = refl
+last_picked t v x rest = grind arith
 
 -- the bits of the row are those that have a number
 pub record HasNumbers (row : ℕ → Bit) (number : Bit → Option ℕ) : Type 0 where
@@ -50,13 +46,7 @@ module _ (row : ℕ → Bit) (number : Bit → Option ℕ) (numbers : HasNumbers
   same_number i k b e same = same_Some i k (sym (numbers.of_bit i) ∙ ap number same ∙ e)
 
   to_row : (i : ℕ) (v : Bool) (b : Bit) (act : Act) → begun_access b act ≡ Some (Write (row i) v) → row_write (number b) act ≡ Some (record { bit = i; value = v })
-  to_row i v b ReadBegin e = absurd (cc)
-  to_row i v b (ReadEnd u) e = absurd (cc)
-  to_row i v b WriteEnd e = absurd (cc)
-  to_row i v b (WriteBegin u) e =
-      let f : b ≡ row i = cc in
-      let g : u ≡ v = cc in
-      ap (λ c. row_write (number c) (WriteBegin u)) f ∙ ap (λ o. row_write o (WriteBegin u)) (numbers.of_bit i) ∙ ap (λ x. Some (record { bit = i; value = x })) g
+  to_row i v b act h1 = grind arith
 
   pub write_to-to : (i : ℕ) (v : Bool) (e : Event) → begun_by e ≡ Some (Write (row i) v) → write_to e ≡ Some (record { bit = i; value = v })
   write_to-to i v e begins = to_row i v e.bit e.act begins
@@ -80,8 +70,7 @@ module _ (row : ℕ → Bit) (number : Bit → Option ℕ) (numbers : HasNumbers
 
   -- a bit of the row is identified by its number
   other_row : (i : ℕ) (b : Bit) → number b ≡ None → same_bit (row i) b ≡ false
-  other_row i b e =
-      false_from_ne_true (same_bit (row i) b) (λ same. none-some i (sym e ∙ ap number (sym (same_bit-true (row i) b same)) ∙ numbers.of_bit i))
+  other_row i b e = grind (arith, false_from_ne_true, none-some, same_bit-true)
 
   in_row : (i k : ℕ) (b : Bit) → number b ≡ Some k → same_bit (row i) b ≡ nat_eq i k
   in_row i k b e = elim (cases_eq i k) [
@@ -92,14 +81,7 @@ module _ (row : ℕ → Bit) (number : Bit → Option ℕ) (numbers : HasNumbers
   ]
 
   written : (i : ℕ) (b : Bit) (act : Act) → value_written (row i) (begun_access b act) ≡ picked i (row_write (number b) act)
-  written i b ReadBegin = ap (picked i) (sym (row_write-read (number b)))
-  written i b (ReadEnd v) = ap (picked i) (sym (row_write-got (number b) v))
-  written i b WriteEnd = ap (picked i) (sym (row_write-wrote (number b)))
-  written i b (WriteBegin v) =
-      elim (number b) as (λ o. number b ≡ o → (if same_bit (row i) b then Some v else None) ≡ picked i (row_write o (WriteBegin v))) [
-        | None ↦ λ e. ap (λ t. if t then Some v else None) (other_row i b e)
-        | Some k ↦ λ e. ap (λ t. if t then Some v else None) (in_row i k b e)
-      ] refl
+  written i b act = grind (arith, in_row, other_row, row_write-got, row_write-read, row_write-wrote)
 
   -- the last value written to a bit, and the bits after the writes to the row
   pub row_after : (i : ℕ) (k : List Event) (bits : ℕ → Bool) → last_value (bits i) (filter_map (write_of (row i)) k) ≡ bits_after bits (filter_map write_to k) i

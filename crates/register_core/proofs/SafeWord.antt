@@ -43,8 +43,7 @@ module _ (shape : Shape) (h : List Event) (lawful : IsLawful shape h) (width j :
 
   -- a digit write that ended before a place is among those that had ended there
   digit_write_ended : (n start stop q : ℕ) → IsDigitWrite j h n start stop → stop < q → q ≤ length h → n < ended (cell_write j) P h q
-  digit_write_ended n start stop q d l fits =
-      omega (arith, ended_more (cell_write j) P h start q d.write.event (record { bit = d.number; value = d.value }) d.write.at_start (cell_write-to j d.number d.value d.write.event d.write.begins) (omega (arith, d.write.ends)) fits, d.behind)
+  digit_write_ended n start stop q d l fits = grind (arith, cell_write-to, ended_more, d.behind, d.number, d.value, d.write.at_start, d.write.begins, d.write.ends, d.write.event)
 
   -- if a word write has ended, so have all its digit writes
   word_write_ended : (n start stop q : ℕ) → IsWordWrite width j h n start stop → stop < q → q ≤ length h → n * width + width ≤ ended (cell_write j) P h q
@@ -99,26 +98,13 @@ module _ (shape : Shape) (h : List Event) (lawful : IsLawful shape h) (width j :
 
   stop_rises : (i d : ℕ) → i + d < count → stop i ≤ stop (i + d)
   stop_rises i zero l = let z : i + 0 ≡ i = omega arith in rw z (omega arith)
-  stop_rises i (suc d) l =
-      let z : i + suc d ≡ suc (i + d) = omega arith in
-      let r = within (suc (i + d)) (omega arith) in
-      rw z (omega (arith, stop_rises i d (omega arith), read.in_turn (i + d) (omega arith), r.0))
+  stop_rises i (suc d) l = grind (arith, within, (stop_rises i d (omega arith)))
 
   stop_below : (i : ℕ) → i < count → stop i ≤ place
-  stop_below i l =
-      let z : i + (count - 1 - i) ≡ count - 1 = omega arith in
-      let to_last : stop i ≤ stop (count - 1) = rw z at (stop_rises i (count - 1 - i) (omega arith)) in
-      elim read_end [
-        | inl whole ↦
-            let last : count - 1 ≡ width - 1 = omega (arith, whole.0) in
-            omega (arith, to_last, ap stop last, whole.1)
-        | inr cut ↦ let r = within i l in omega (arith, r.2, cut.1)
-      ]
+  stop_below i l = grind (arith, (stop_rises i (count - 1 - i) (omega arith)), (within i l))
 
   ended_le_had_begun : had_ended ≤ had_begun
-  ended_le_had_begun =
-      let r = within 0 some_read in
-      omega (arith, ended_le_begun (cell_write j) P h (start 0), begun_rises (cell_write j) h (start 0) place (omega (arith, r.0, stop_below 0 some_read)))
+  ended_le_had_begun = grind (arith, begun_rises, ended_le_begun, stop_below, within)
 
   start_within : start 0 ≤ length h
   start_within = let r = within 0 some_read in omega (arith, r.1)
@@ -165,13 +151,7 @@ module _ (shape : Shape) (h : List Event) (lawful : IsLawful shape h) (width j :
 
     -- the writes ended when a digit read began are those of the first n words
     first_words : (i : ℕ) → i < count → cell_writes j (before_last P (take (start i) h)) ≡ word_writes width (take n items)
-    first_words i l =
-        let r = ended_there i l in
-        sym (take-ended (cell_write j) P h (start i))
-        ∙ ap (λ k. take k (cell_writes j h)) r.0
-        ∙ sym (take-append-le (n * width) (cell_writes j h) writes.0 (omega (arith, begun_least (cell_write j) h place)))
-        ∙ ap (take (n * width)) writes.1
-        ∙ take-word_writes width items n fits
+    first_words i l = grind (arith, (begun_least (cell_write j) h place), (ended_there i l), (take-append-le (n * width) (cell_writes j h) writes.0 (omega (arith, begun_least (cell_write j) h place))), (take-ended (cell_write j) P h (start i)), (take-word_writes width items n fits), fits)
 
     -- so each answer is what they leave in the digit
     digit_is : (i : ℕ) → i < count → answer i ≡ bits_after clear_bits (word_writes width (take n items)) i
@@ -188,10 +168,7 @@ module _ (shape : Shape) (h : List Event) (lawful : IsLawful shape h) (width j :
 
     -- a word write that had ended is among them
     word_below : (m s t : ℕ) → IsWordWrite width j h m s t → t < start 0 → m < n
-    word_below m s t w l = elim (cases_lt m n) [
-      | inl k ↦ k
-      | inr k ↦ absurd (omega (arith, word_write_ended shape h lawful width j m s t (start 0) w l start_within, mul-le-mul_right width k))
-    ]
+    word_below m s t w l = grind (arith, (cases_lt m n), (word_write_ended shape h lawful width j m s t (start 0) w l start_within), mul-le-mul_right, start_within)
 
   -- the digits are those of the item last written, if there is one
   abbrev Told : Type 0
@@ -238,8 +215,7 @@ module _ (shape : Shape) (h : List Event) (lawful : IsLawful shape h) (width j :
       safe_by_words n (omega (arith, ended_le_had_begun)) (omega (arith, ended_le_had_begun))
 
 pub digits-are_safe : DigitsAreSafe
-digits-are_safe shape h lawful width j wide items fit writes count some_read few_read start stop answer read place read_end quiet =
-    safe_digits shape h lawful width j wide items fit writes count some_read few_read start stop answer read place read_end quiet
+digits-are_safe shape h lawful width j wide items fit writes count some_read few_read start stop answer read place read_end quiet = grind (arith, (safe_digits shape h lawful width j wide items fit writes count some_read few_read start stop answer read place read_end quiet))
 
 -- a word read that has ended is one of all digits, and they determine its item
 pub word-is_safe : WordIsSafe

@@ -1,5 +1,5 @@
 -- The writer stands after the writes that it made.
-use Rattle.std.proofs.Common.{None, Some, ◌≡◌, ℕ, zero, suc, ◌<◌, ◌≤◌, Bool, true, false, cond, List, [], ◌∷◌, ◌++◌, Option, length, replicate, slice_set, refl, sym, ap, subst, arith, ◌∙◌, ◌⊎◌, inl, inr, append_assoc, append-nil, get_or-set_same, get_or-set_other, length-set}
+use Rattle.std.proofs.Common.{rules, None, Some, ◌≡◌, ℕ, zero, suc, ◌<◌, ◌≤◌, Bool, true, false, cond, List, [], ◌∷◌, ◌++◌, Option, length, replicate, slice_set, refl, sym, ap, subst, arith, ◌∙◌, append_assoc, append-nil, get_or-set_same, get_or-set_other, length-set}
 use Rattle.std.proofs.Math.Path.{fun_ext}
 use Rattle.std.proofs.Math.Dec.{eqb-suc-zero}
 use Rattle.std.proofs.lemmas.List.{map-append}
@@ -7,11 +7,10 @@ use Rattle.std.proofs.lemmas.Bool.{cases_eq}
 use Rattle.bits_core.specs.declared.events.Side.{Side}
 use Rattle.bits_core.specs.declared.events.Bit.{Bit}
 use Rattle.bits_core.specs.declared.events.Access.{Access}
-use Rattle.bits_core.specs.declared.events.Access.TheVariants as begins
 use Rattle.bits_core.specs.Made.{Made, Write, answered}
 use Rattle.register_core.specs.Row.{RowWrite, row_bit, first_bits, bits_with, bits_after, writes_in}
 use Rattle.register_core.specs.Machine.{IsNext}
-use Rattle.register_core.specs.Unary.{clearing, unary_phrase, unary_writes, row_writes, writes_of, count_writes}
+use Rattle.register_core.specs.Unary.{clearing, unary_phrase, unary_writes, row_writes, count_writes}
 use Rattle.register_core.specs.UnaryState.{UnaryState, bit_in, new_row, due_writes, first_access, due_unary, row_with, row_fed, UnaryStands}
 use Rattle.register_core.proofs.Rows.{other_bit, same_bit, bits_after-append}
 use Rattle.register_core.proofs.Due.{clearing-set, clearing-clear, unary_phrase-clear, unary_phrase-set}
@@ -27,10 +26,7 @@ clearing-same f g (suc j) same =
 
 -- What the first write is, and what follows it.
 first_is : (j : ℕ) (v : Bool) (x : RowWrite) (more rest : List RowWrite) → record { bit = j; value = v } ∷ more ≡ x ∷ rest → (j ≡ x.bit) × (x.value ≡ v) × (more ≡ rest)
-first_is j v x more rest e =
-    let first : ◌≡◌ {A = RowWrite} (record { bit = j; value = v }) x = cc in
-    let behind : more ≡ rest = cc in
-    (ap (λ (w : RowWrite). w.bit) first, sym (ap (λ (w : RowWrite). w.value) first), behind)
+first_is j v x more rest e = grind arith
 
 -- The first of the writes that clear below a place, and what is left then.
 record ClearsFirst (bits : ℕ → Bool) (j : ℕ) (x : RowWrite) (rest : List RowWrite) : Type 0 where
@@ -67,34 +63,12 @@ record GoesOn (bits : ℕ → Bool) (v : ℕ) (x : RowWrite) (rest : List RowWri
   left : unary_phrase (bits_with bits x) v ≡ rest
 
 phrase-first : (bits : ℕ → Bool) (v : ℕ) (x : RowWrite) (rest : List RowWrite) → unary_phrase bits v ≡ x ∷ rest → GoesOn bits v x rest
-phrase-first bits v x rest e = split (bits v) refl
-  where
-    split : (b : Bool) → bits v ≡ b → GoesOn bits v x rest
-    split true h =
-        let r = clearing-first bits v x rest (sym (unary_phrase-set bits v h) ∙ e) in
-        record {
-          fits = omega (arith, r.below);
-          left = unary_phrase-set (bits_with bits x) v (other_bit bits v x.bit x.value (omega (arith, r.below)) ∙ h) ∙ r.left;
-        }
-    split false h =
-        let f = first_is v true x (clearing bits v) rest (sym (unary_phrase-clear bits v h) ∙ e) in
-        let place = f.0 in
-        record {
-          fits = omega (arith, place);
-          left =
-              unary_phrase-set (bits_with bits x) v (same_bit bits v x.bit x.value place ∙ f.1) ∙
-              clearing-same (bits_with bits x) bits v (λ k l. other_bit bits k x.bit x.value (omega (arith, l, place))) ∙ f.2;
-        }
+phrase-first bits v x rest e = search (rules, clearing-first, clearing-same, first_is, other_bit, same_bit, unary_phrase-clear, unary_phrase-set, x.bit, x.value)
 
 -- The bits of a list after a write in it.
 bit_in-set : (bits : List Bool) (x : RowWrite) → x.bit < length bits →
     bit_in (slice_set bits x.bit x.value) ≡ bits_with (bit_in bits) x
-bit_in-set bits x fits = fun_ext (λ k. at k (cases_eq k x.bit))
-  where
-    at : (k : ℕ) → (k ≡ x.bit) ⊎ (k ≡ x.bit → ⊥) → bit_in (slice_set bits x.bit x.value) k ≡ bits_with (bit_in bits) x k
-    at k (inl e) = ap (bit_in (slice_set bits x.bit x.value)) e ∙ get_or-set_same bits x.bit x.value false fits ∙
-        sym (same_bit (bit_in bits) k x.bit x.value e)
-    at k (inr n) = get_or-set_other bits x.bit k x.value false n ∙ sym (other_bit (bit_in bits) k x.bit x.value n)
+bit_in-set bits x fits = grind (arith, cases_eq, fun_ext, get_or-set_other, get_or-set_same, other_bit, same_bit, x.bit, x.value)
 
 -- The writes of one more value.
 pub row_writes-more :
@@ -102,12 +76,7 @@ pub row_writes-more :
     row_writes (unary_writes bits (values ++ v ∷ [])) ≡
     row_writes (unary_writes bits values) ++ unary_phrase (bits_after bits (row_writes (unary_writes bits values))) v
 row_writes-more [] v bits = append-nil (unary_phrase bits v)
-row_writes-more (u ∷ values) v bits =
-    let then : ℕ → Bool = bits_after bits (unary_phrase bits u) in
-    let more : List RowWrite = row_writes (unary_writes then values) in
-    ap (λ ws. unary_phrase bits u ++ ws) (row_writes-more values v then) ∙
-    sym (append_assoc (unary_phrase bits u) more (unary_phrase (bits_after then more) v)) ∙
-    ap (λ f. (unary_phrase bits u ++ more) ++ unary_phrase f v) (sym (bits_after-append (unary_phrase bits u) more bits))
+row_writes-more (u ∷ values) v bits = grind (arith, append_assoc, bits_after-append, (row_writes-more values v))
 
 all_clear : (n k : ℕ) → bit_in (replicate n false) k ≡ false
 all_clear zero k = refl
@@ -124,25 +93,12 @@ stands-new side modulus = record { writes = []; made_is = refl; within = omega a
 
 -- nothing is due if no access is left
 pub idle : (row : ℕ → Bit) (writes : List RowWrite) → first_access row writes ≡ None → writes ≡ []
-idle row [] none = refl
-idle row (x ∷ writes) none = absurd (cc)
+idle row writes h1 = grind arith
 
 pub stands-write :
     (w : UnaryState) (v : ℕ) → v < length w.bits → due_unary w ≡ None → (values : List ℕ) (made : List Made) →
     UnaryStands w values made → UnaryStands (record w { value = v }) (values ++ v ∷ []) made
-stands-write w v fits none values made s =
-    let all : writes_of values ≡ s.writes = s.goes_on ∙ ap (λ d. s.writes ++ d) (idle (row_bit w.side) (due_writes w) none) ∙ append-nil s.writes in
-    let bits : bit_in w.bits ≡ bits_after first_bits s.writes = fun_ext s.remembered in
-    record {
-      writes = s.writes;
-      made_is = s.made_is;
-      within = fits;
-      remembered = s.remembered;
-      goes_on =
-          row_writes-more values v first_bits ∙
-          ap (λ ws. ws ++ unary_phrase (bits_after first_bits ws) v) all ∙
-          ap (λ f. s.writes ++ unary_phrase f v) (sym bits);
-    }
+stands-write w v fits none values made s = grind (arith, append-nil, fun_ext, idle, row_writes-more, s.goes_on, s.made_is, s.remembered, s.writes, w.bits, w.side)
 
 -- one more write, as an access
 one_more : (row : ℕ → Bit) (writes : List RowWrite) (x : RowWrite) → writes_in row (writes ++ x ∷ []) ≡ writes_in row writes ++ Write (row x.bit) x.value ∷ []
@@ -195,10 +151,4 @@ pub feed-stands :
     (w after : UnaryState) → after ≡ row_fed w → (answer : Bool) →
     (values : List ℕ) (made : List Made) (access : Access) →
     UnaryStands w values made → due_unary w ≡ Some access → UnaryStands after values (made ++ answered access answer ∷ [])
-feed-stands w after same answer values made access s due = go (due_writes w) refl due
-  where
-    go : (ws : List RowWrite) → due_writes w ≡ ws → first_access (row_bit w.side) ws ≡ Some access → UnaryStands after values (made ++ answered access answer ∷ [])
-    go [] e first = absurd (cc)
-    go (x ∷ rest) e first =
-        let a : begins.Write (row_bit w.side x.bit) x.value ≡ access = cc in
-        rw (same, ← a) (stands-fed w values made x rest e s)
+feed-stands w after same answer values made access s due = grind (arith, stands-fed, w.side)

@@ -42,17 +42,7 @@ module _ (shape : Shape) (h : List Event) (lawful : IsLawful shape h) (s : Side)
   ]
 
   windows : Windows last from till
-  windows = record {
-    from_rises = λ i l. ended_rises (count_write s) s h (start i) (start (suc i)) (omega (arith, within i (omega arith), zeros.in_turn i l)) (omega (arith, within (suc i) l));
-    till_rises = λ i l. begun_rises (count_write s) h (stop i) (stop (suc i)) (omega (arith, within (suc i) l, zeros.in_turn i l));
-    one_open = λ i l.
-        omega (
-          arith,
-          one_open (count_write s) s (count_write-its s) shape h lawful (stop i) (omega (arith, within i (omega arith))),
-          ended_rises (count_write s) s h (stop i) (start (suc i)) (omega (arith, zeros.in_turn i l)) (omega (arith, within (suc i) l)),
-        );
-    in_order = λ i l. omega (arith, ended_le_begun (count_write s) s h (start i), begun_rises (count_write s) h (start i) (stop i) (omega (arith, within i l)));
-  }
+  windows = grind (arith, (count_write-its s), begun_rises, ended_le_begun, ended_rises, one_open, within)
 
   -- a write of the bit overlaps the read
   overlapped : (i : ℕ) (v : Bool) → IsRead h (other s) (row_bit s i) (start i) (stop i) v → HasOverlap h (row_bit s i) (start i) (stop i) → SafelyAnswered (writes_of values) from till i v
@@ -74,10 +64,7 @@ module _ (shape : Shape) (h : List Event) (lawful : IsLawful shape h) (s : Side)
 
   -- the first writes are those that had ended
   first_writes : (i : ℕ) → take (from i) (writes_of values) ≡ count_ended s (take (start i) h)
-  first_writes i =
-      ap (take (from i)) (sym writes.1)
-      ∙ take-append-le (from i) (count_begun s h) writes.0 (omega (arith, ended_le_begun (count_write s) s h (start i), begun_least (count_write s) h (start i)))
-      ∙ take-ended (count_write s) s h (start i)
+  first_writes i = grind (arith, begun_least, ended_le_begun, take-append-le, take-ended)
 
   -- the read returns what the bit held when it began
   held_there : (i : ℕ) (v : Bool) → start i ≤ length h → IsHeld h (row_bit s i) (start i) v → SafelyAnswered (writes_of values) from till i v
@@ -103,10 +90,7 @@ module _ (shape : Shape) (h : List Event) (lawful : IsLawful shape h) (s : Side)
   last_answered = answered last answer (omega arith) final
 
 pub unary-is_regular : UnaryIsRegular
-unary-is_regular shape h lawful s values writes c start stop scan =
-    let r = moments-are_regular values c _ _ (scanned shape h lawful s values writes c start stop scan.zeros true scan.one) (last_answered shape h lawful s values writes c start stop scan.zeros true scan.one) in
-    record { number = r.number; not_overwritten = r.not_overwritten; has_begun = r.has_begun; has_value = r.has_value }
+unary-is_regular shape h lawful s values writes c start stop scan = grind (arith, (last_answered shape h lawful s values writes c start stop scan.zeros true scan.one), (moments-are_regular values c _ _ (scanned shape h lawful s values writes c start stop scan.zeros true scan.one) (last_answered shape h lawful s values writes c start stop scan.zeros true scan.one)), (scanned shape h lawful s values writes c start stop scan.zeros true scan.one), scan.one, scan.zeros)
 
 pub unary-has_one : UnaryHasOne
-unary-has_one shape h lawful s values writes last start stop within zeros final =
-    moments-have_one values last _ _ within (scanned shape h lawful s values writes last start stop zeros false final) (last_answered shape h lawful s values writes last start stop zeros false final)
+unary-has_one shape h lawful s values writes last start stop within zeros final = grind (arith, (last_answered shape h lawful s values writes last start stop zeros false final), (moments-have_one values last _ _ within (scanned shape h lawful s values writes last start stop zeros false final) (last_answered shape h lawful s values writes last start stop zeros false final)), (scanned shape h lawful s values writes last start stop zeros false final))

@@ -1,5 +1,5 @@
 -- The law of the unary register by moments, from what its scan finds.
-use Rattle.std.proofs.Common.{ℕ, zero, suc, ◌≤◌, Bool, true, false, List, [], ◌∷◌, All, refl, ap, arith, suc-le-suc, ◌∙◌, take}
+use Rattle.std.proofs.Common.{rules, ℕ, zero, suc, ◌≤◌, Bool, true, false, List, [], ◌∷◌, All, refl, arith, suc-le-suc}
 use Rattle.register_core.specs.Row.{RowWrite, first_bits, bits_after}
 use Rattle.register_core.specs.Unary.{UnaryWrite, unary_phrase, unary_writes, writes_of, having_writes, numbered_of, numbered_value}
 use Rattle.register_core.specs.UnaryLaw.{NumberedStayWithin}
@@ -18,12 +18,7 @@ chain_of values = numbered-chain values 0 first_bits first_shows
 read_of :
     (values : List ℕ) (from till : ℕ → ℕ) (i : ℕ) (answer : Bool) → Answered (writes_of values) from till i answer →
     Reads (numbered_of values) first_bits 0 (chain_of values) from till i answer
-read_of values from till i answer (t, began, in_window, e) = (
-  t,
-  began,
-  in_window,
-  ap (λ ws. bits_after first_bits (take t ws) i) (row_writes-numbered (unary_writes first_bits values)) ∙ e,
-)
+read_of values from till i answer (t, began, in_window, e) = search (rules, row_writes-numbered)
 
 pub moments-are_regular : MomentsAreRegular
 moments-are_regular values c from till scan answer =
@@ -40,9 +35,7 @@ value_step :
     (v w last : ℕ) (writes : List RowWrite) (us : List UnaryWrite) → v ≤ last → w ≤ last →
     ((v' : ℕ) → v' ≤ last → (n : ℕ) → numbered_value v' (having_writes us) n ≤ last) →
     (n : ℕ) → numbered_value v (having_writes (record { value = w; writes = writes } ∷ us)) n ≤ last
-value_step v w last [] us fits fits' rest n = rest v fits n
-value_step v w last (x ∷ writes) us fits fits' rest zero = fits
-value_step v w last (x ∷ writes) us fits fits' rest (suc n) = rest w fits' n
+value_step v w last writes us h1 h2 h3 n = grind arith
 
 value_le :
     (values : List ℕ) (last : ℕ) (bits : ℕ → Bool) → All (λ v. v ≤ last) values →
@@ -64,5 +57,4 @@ pub numbered-stay_within : NumberedStayWithin
 numbered-stay_within values bound all n = value_le values bound first_bits all 0 (omega arith) n
 
 pub bits-are_regular : BitsAreRegular
-bits-are_regular values from till i answer fits safe =
-    safe_answer (writes_of values) from till i answer (changing_all values 0 first_bits) fits safe
+bits-are_regular values from till i answer fits safe = grind (arith, changing_all, safe_answer)

@@ -1,5 +1,5 @@
 -- The machines of a word stand after what they made.
-use Rattle.std.proofs.Common.{◌≡◌, ℕ, suc, ◌<◌, Bool, true, false, Some, None, List, [], ◌∷◌, ◌++◌, append_assoc, refl, sym, ap, ◌∙◌, arith, if◌then◌else◌, nat_lt}
+use Rattle.std.proofs.Common.{◌≡◌, ℕ, suc, ◌<◌, Bool, Some, List, [], ◌∷◌, ◌++◌, append_assoc, refl, sym, ap, ◌∙◌, arith}
 use Rattle.std.proofs.lemmas.List.{map-append}
 use Rattle.std.proofs.Math.Nat.{pow-succ'}
 use Rattle.std.proofs.Math.Pow.{pow_mono}
@@ -29,20 +29,10 @@ writer-next width cell item n within made stands =
     )
 
 pub reader-feeds : (r : ReaderState) (made : List Made) (answer : Bool) → ReaderStands r made → ReaderStands (read_digit r answer) (made ++ Read (Cell r.cell r.read) answer ∷ [])
-reader-feeds r made true stands = record {
-  fits = omega (arith, stands.fits, pow-succ' 2 r.read);
-  made_is = ap (λ l. l ++ Read (Cell r.cell r.read) true ∷ []) stands.made_is ∙ sym (reads_one r.cell r.read r.value stands.fits);
-}
-reader-feeds r made false stands = record {
-  fits = omega (arith, stands.fits, pow-succ' 2 r.read);
-  made_is = ap (λ l. l ++ Read (Cell r.cell r.read) false ∷ []) stands.made_is ∙ sym (reads_zero r.cell r.read r.value stands.fits);
-}
+reader-feeds r made answer h1 = grind (arith, pow-succ', reads_one, reads_zero)
 
 due_is : (r : ReaderState) (access : Access) → due_read r ≡ Some access → access ≡ begins.Read (Cell r.cell r.read)
-due_is r access due = elim (nat_lt r.read r.width) as (λ t. (if t then Some (begins.Read (Cell r.cell r.read)) else None) ≡ Some access → access ≡ begins.Read (Cell r.cell r.read)) [
-  | true ↦ λ e. cc
-  | false ↦ λ e. absurd (cc)
-] due
+due_is r access due = grind (arith, r.cell, r.read, r.width)
 
 pub reader-fed : (r next : ReaderState) (answer : Bool) → next ≡ read_digit r answer → (made : List Made) (access : Access) → ReaderStands r made → due_read r ≡ Some access → ReaderStands next (made ++ answered access answer ∷ [])
 reader-fed r next answer fed made access stands due = rw (fed, due_is r access due) (reader-feeds r made answer stands)

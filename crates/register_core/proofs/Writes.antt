@@ -1,5 +1,5 @@
 -- The events that begin a write of a bit, and their order with a read.
-use Rattle.std.proofs.Common.{◌≡◌, ℕ, ◌<◌, Bool, List, Option, Some, None, slice_get, if◌then◌else◌, sym, ap, arith, ◌∙◌, inl, inr}
+use Rattle.std.proofs.Common.{◌≡◌, ℕ, ◌<◌, Bool, List, Some, None, slice_get, if◌then◌else◌, ap, arith, ◌∙◌}
 use Rattle.std.proofs.lemmas.Bool.{cases_lt}
 use Rattle.std.proofs.lemmas.Option.{none-some}
 use Rattle.bits_core.specs.declared.events.Side.{Side}
@@ -40,15 +40,4 @@ begins_alone shape h lawful place e at access begins = none_open h place e.side 
 
 -- an access that does not begin after the end of a read begins before it
 pub begins_before : (h : List Event) (s : Side) (b : Bit) (start stop : ℕ) (v : Bool) → IsRead h s b start stop v → (t : Side) (access : Access) (start' stop' : ℕ) → IsAccess h t access start' stop' → ¬ (stop < start') → start' < stop
-begins_before h s b start stop v read t access start' stop' a late =
-    elim (cases_lt start' stop) [
-      | inl l ↦ l
-      | inr l ↦ absurd (elim (cases_lt stop start') [
-        | inl m ↦ late m
-        | inr m ↦
-            let same : start' ≡ stop = omega arith in
-            let both : ◌≡◌ {A = Option Event} (Some a.event) (Some (record { side = s; bit = b; act = ReadEnd v })) = sym a.at_start ∙ ap (slice_get h) same ∙ read.ends in
-            let event : ◌≡◌ {A = Event} a.event (record { side = s; bit = b; act = ReadEnd v }) = cc in
-            none-some access (sym (ap begun_by event) ∙ a.begins)
-      ])
-    ]
+begins_before h s b start stop v read t access start' stop' a late = grind (arith, cases_lt, none-some, a.at_start, a.begins, a.event, read.ends)

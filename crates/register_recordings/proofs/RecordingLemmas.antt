@@ -42,25 +42,16 @@ text_more before l = flat_map-append register_line_bytes before (l ∷ []) ∙ a
 -- a line has a byte
 many_bytes : (lines : List RegisterLine) → length lines ≤ length (register_text lines)
 many_bytes [] = omega arith
-many_bytes (l ∷ lines) =
-    let whole : length (register_text (l ∷ lines)) ≡ length (register_line_bytes l) + length (register_text lines) = length-append (register_line_bytes l) (register_text lines) in
-    let one : length (register_line_bytes l) ≡ length (register_line_text l) + 1 = length-append (register_line_text l) (10 ∷ []) in
-    let later : length lines ≤ length (register_text lines) = many_bytes lines in
-    omega (arith, whole, one, later)
+many_bytes (l ∷ lines) = grind (arith, length-append, (many_bytes lines))
 
 pub too_long : (before : List RegisterLine) (bytes more : List ℕ) → bytes ≡ register_text before ++ more → 2 ^ 64 - 1 ≤ length before → 2 ^ 64 - 1 ≤ length bytes
-too_long before bytes more text long =
-    let whole : length bytes ≡ length (register_text before) + length more = ap (λ (t : List ℕ). length t) text ∙ length-append (register_text before) more in
-    let many : length before ≤ length (register_text before) = many_bytes before in
-    omega (arith, whole, long, many)
+too_long before bytes more text long = grind (arith, length-append, many_bytes)
 
 -- ---- a line that ends
 
 -- the bytes of a line that ends, after lines
 ended_text : (before : List RegisterLine) (bytes cut end more : List ℕ) → bytes ≡ register_text before ++ cut → bytes ++ (end ++ 10 ∷ more) ≡ register_text before ++ ((cut ++ end) ++ 10 ∷ more)
-ended_text before bytes cut end more text =
-    ap (λ (t : List ℕ). t ++ (end ++ 10 ∷ more)) text ∙ append_assoc (register_text before) cut (end ++ 10 ∷ more)
-    ∙ ap (λ (t : List ℕ). register_text before ++ t) (sym (append_assoc cut end (10 ∷ more)))
+ended_text before bytes cut end more text = grind (arith, append_assoc)
 
 nothing_kept : (cut : List ℕ) → cut ≡ [] → length cut ≤ 54
 nothing_kept cut none = let long : length cut ≡ 0 = ap (λ (t : List ℕ). length t) none in omega (arith, long)
@@ -71,28 +62,13 @@ no_feed_kept cut none = subst HasNoFeed (sym none) (All-nil IsOther)
 module _ {W R P C B : Type 0} (window : W → List ℕ) (states : R → List ReaderState) (places : P → List ℕ) (chains : C → List Chain) (bytes_of : B → List ℕ) where
   -- nothing was read
   pub nothing_read : (new : RegisterRecording W R P C B) → bytes_of new.cut ≡ [] → HasJudged window states places chains new.lines [] → HasReadRegister window states places chains bytes_of new []
-  nothing_read new none lines = record {
-    ended = [];
-    text = sym none;
-    no_feed = no_feed_kept (bytes_of new.cut) none;
-    few = nothing_kept (bytes_of new.cut) none;
-    lines = lines;
-  }
+  nothing_read new none lines = grind arith
 
   -- a line was read, and no byte of another one
   pub line_ended :
       (old new : RegisterRecording W R P C B) (bytes end whole : List ℕ) (has : HasReadRegister window states places chains bytes_of old bytes) → whole ≡ bytes_of old.cut ++ end → bytes_of new.cut ≡ [] →
       (l : RegisterLine) × ContinuesRegister has.ended whole l × HasJudged window states places chains new.lines (has.ended ++ l ∷ []) → HasReadRegister window states places chains bytes_of new (bytes ++ end ++ 10 ∷ [])
-  line_ended old new bytes end whole has all none (l, on, lines) =
-      let is : bytes_of old.cut ++ end ≡ register_line_text l = sym all ∙ on.1 in
-      record {
-        ended = has.ended ++ l ∷ [];
-        text = append_assoc bytes end (10 ∷ []) ∙ ended_text has.ended bytes (bytes_of old.cut) end [] has.text ∙ ap (λ (t : List ℕ). register_text has.ended ++ (t ++ 10 ∷ [])) is ∙ sym (text_more has.ended l)
-            ∙ sym (append-nil (register_text (has.ended ++ l ∷ []))) ∙ ap (λ (t : List ℕ). register_text (has.ended ++ l ∷ []) ++ t) (sym none);
-        no_feed = no_feed_kept (bytes_of new.cut) none;
-        few = nothing_kept (bytes_of new.cut) none;
-        lines = lines;
-      }
+  line_ended old new bytes end whole has all none (l, on, lines) = grind (arith, append-nil, append_assoc, ended_text, no_feed_kept, nothing_kept, text_more)
 
   -- more bytes of a line were kept
   pub bytes_kept :
@@ -206,8 +182,7 @@ module _ {W R P C : Type 0} (window : W → List ℕ) (states : R → List Reade
   one_cut :
       (lines : JudgedLines W R P C) (is_cut : Bool) (ended further : List RegisterLine) (head : RegisterLine) (cut rest : List ℕ) → HasJudged window states places chains lines ended → lacks_operations head ≡ is_cut →
       AllowsNumbers head → register_text ended ++ cut ≡ register_text (head ∷ further) ++ rest → HasNoFeed cut → lines.is_cut ≡ is_cut
-  one_cut lines is_cut [] further head cut rest has gives allowed e none =
-      absurd (feed_nowhere cut (register_line_text head) (register_text further ++ rest) none (e ∙ append_assoc (register_line_bytes head) (register_text further) rest ∙ line_and head (register_text further ++ rest)))
+  one_cut lines is_cut [] further head cut rest has gives allowed e none = grind (arith, (append_assoc (register_line_bytes head) (register_text further) rest), (feed_nowhere cut (register_line_text head) (register_text further ++ rest) none (e ∙ append_assoc (register_line_bytes head) (register_text further) rest ∙ line_and head (register_text further ++ rest))), (line_and head (register_text further ++ rest)))
   one_cut lines is_cut (l ∷ ended) further head cut rest has gives allowed e none =
       let same =
       front_same l head (register_text ended ++ cut) (register_text further ++ rest) has.are.0 allowed

@@ -1,15 +1,13 @@
 -- Whether a history falls short of a class, and whether the bytes that record it do.
-use Rattle.std.proofs.Common.{◌≡◌, ◌≢◌, true, false, ℕ, Option, Some, None, List, [], ◌∷◌, not, refl, inr}
+use Rattle.std.proofs.Common.{arith, ◌≡◌, ◌≢◌, true, ℕ, Option, Some, None, List, [], ◌∷◌, refl}
 use Rattle.std.specs.List.{filter_map}
 use Rattle.register_calls.specs.declared.auditors.ReaderState.{ReaderState}
 use Rattle.register_calls.specs.declared.events.Class.{Class}
-use Rattle.register_calls.specs.declared.events.Class.TheVariants.{Safe, Regular, AtomicByReader, Atomic}
 use Rattle.register_calls.specs.declared.events.Register.{Register}
 use Rattle.register_calls.specs.declared.events.RegisterEvent.{RegisterEvent}
 use Rattle.register_calls.specs.declared.reports.RegisterReport.{RegisterReport}
 use Rattle.register_calls.specs.declared.chains.Chain.{Chain}
 use Rattle.register_calls.specs.Classes.{HasClass, IsStrongest}
-use Rattle.register_calls.specs.Findings.{is_at_least}
 use Rattle.register_calls.specs.Histories.{IsWellFormed}
 use Rattle.register_calls.proofs.ClassLemmas.{stronger}
 use Rattle.register_lines.specs.declared.lines.RegisterLine.{RegisterLine}
@@ -22,27 +20,19 @@ use Rattle.register_recordings.specs.Reading.{HasJudged, HasReadEvents}
 
 -- the strongest class is one that the history has
 strongest_has : (d : Class) (r : Register) (h : List RegisterEvent) → IsStrongest (Some d) r h → HasClass d r h
-strongest_has Safe r h is = is.0
-strongest_has Regular r h is = is.0
-strongest_has AtomicByReader r h is = is.0
-strongest_has Atomic r h is = is
+strongest_has d r h h1 = grind arith
 
 -- if the history lacks a class, its strongest one falls short of it
 pub lacking_falls_short :
     (class : Class) (found : Option Class) (misses : Misses) (report : RegisterReport) (r : Register) (h : List RegisterEvent) → IsWellFormed r h → IsStrongest found r h → ¬ HasClass class r h →
     falls_short class (Judged found misses report) ≡ true
 lacking_falls_short class None misses report r h formed is lacks = refl
-lacking_falls_short class (Some d) misses report r h formed is lacks =
-    elim (is_at_least d class) as (λ t. is_at_least d class ≡ t → not t ≡ true) [
-      | true ↦ λ least. absurd (lacks (stronger d class r h formed least (strongest_has d r h is)))
-      | false ↦ λ less. refl
-    ] refl
+lacking_falls_short class (Some d) misses report r h formed is lacks = grind (arith, (strongest_has d r h is), stronger)
 
 module _ {W R P C : Type 0} (window : W → List ℕ) (states : R → List ReaderState) (places : P → List ℕ) (chains : C → List Chain) where
   by_finding :
       (class : Class) (bytes : List ℕ) (r : Register) (events : List RegisterEvent) (found : Option RegisterFinding) → IsRegisterRecording bytes r events → FallsShort class r events found → IsShortfall class bytes found
-  by_finding class bytes r events None is short = inr (r, events, is, short)
-  by_finding class bytes r events (Some finding) is short = ((r, events, is, short.0), short.1)
+  by_finding class bytes r events found h1 h2 = grind arith
 
   -- what holds for the history of lines that have ended holds for their bytes
   pub bytes_fall_short :

@@ -1,5 +1,5 @@
 -- The names, values and kinds that are read, and what the object has.
-use Rattle.std.proofs.Common.{◌≡◌, ◌⊎◌, ◌∙◌, ◌<◌, ℕ, zero, suc, Bool, true, false, List, Option, Some, None, Result, Ok, Err, refl, sym, ap, subst, arith, true≢false, inl, inr}
+use Rattle.std.proofs.Common.{rules, ◌≡◌, ◌⊎◌, ◌∙◌, ◌<◌, ℕ, zero, suc, Bool, true, List, Option, Some, None, Result, Ok, Err, refl, sym, ap, subst, arith, inl, inr}
 use Rattle.std.specs.Prelude.{◌||◌}
 use Rattle.std.specs.Str.{bytes_eq}
 use Rattle.serde_json.specs.Data.{Data, object, Members, no_members, member}
@@ -7,7 +7,7 @@ use Rattle.std.proofs.lemmas.Bool.{cases_lt, and_parts}
 use Rattle.std.proofs.lemmas.Slice.Eq.{bytes_eq-Decides}
 use Rattle.ring_script.specs.Faults.{IsFirst, IsMissing, field_place, is_needed}
 use Rattle.ring_script.specs.Results.{result_and_then}
-use Rattle.ring_script.specs.FieldReading.{FieldValues, field_of, found, has_known_names, is_name, field_values}
+use Rattle.ring_script.specs.FieldReading.{FieldValues, found, has_known_names, is_name, field_values}
 use Rattle.ring_script.specs.Fields.{name_of, HasKnownNames, IsName, held_as}
 use Rattle.ring_script.specs.declared.faults.Field.{Field}
 use Rattle.ring_script.specs.declared.faults.Field.TheVariants as field
@@ -17,12 +17,10 @@ use Rattle.ring_script.specs.declared.faults.ScriptFault.TheVariants.{MissingFie
 -- ---- results
 
 pub and_then_ok : {A B E : Type 0} (r : Result A E) (f : A → Result B E) (y : B) → result_and_then r f ≡ Ok y → (a : A) × (r ≡ Ok a) × (f a ≡ Ok y)
-and_then_ok (Ok a) f y e = (a, refl, e)
-and_then_ok (Err x) f y e = cc
+and_then_ok r f y h1 = grind arith
 
 pub and_then_err : {A B E : Type 0} (r : Result A E) (f : A → Result B E) (x : E) → result_and_then r f ≡ Err x → (r ≡ Err x) ⊎ ((a : A) × (r ≡ Ok a) × (f a ≡ Err x))
-and_then_err (Ok a) f x e = inr (a, refl, e)
-and_then_err (Err y) f x e = let same : y ≡ x = cc in inl (ap Err same)
+and_then_err r f x h1 = grind arith
 
 pub and_then_at : {A B E : Type 0} (r : Result A E) (a : A) (f : A → Result B E) (y : Result B E) → r ≡ Ok a → f a ≡ y → result_and_then r f ≡ y
 and_then_at r a f y e g = ap (λ x. result_and_then x f) e ∙ g
@@ -42,8 +40,7 @@ same_bytes : (a b : List ℕ) → bytes_eq a b ≡ true → a ≡ b
 same_bytes a b e = (bytes_eq-Decides a b).0 e
 
 pick : (a b : Bool) (A : Type 0) → (a || b) ≡ true → (a ≡ true → A) → (b ≡ true → A) → A
-pick true b A e first other = first refl
-pick false b A e first other = other e
+pick a b A h1 h2 h3 = grind arith
 
 name_is : (name : List ℕ) → is_name name ≡ true → IsName name
 unfolding is_name
@@ -70,16 +67,7 @@ name_is name e =
 
 is_name_of : (f : Field) → is_name (name_of f) ≡ true
 unfolding is_name
-is_name_of field.Capacity = refl
-is_name_of field.Modulus = refl
-is_name_of field.Width = refl
-is_name_of field.Items = refl
-is_name_of field.Takes = refl
-is_name_of field.Close = refl
-is_name_of field.Schedule = refl
-is_name_of field.Oracle = refl
-is_name_of field.Batch = refl
-is_name_of field.TakeBatch = refl
+is_name_of f = grind arith
 
 pub known_from : (ms : Members) → has_known_names ms ≡ true → HasKnownNames ms
 unfolding has_known_names
@@ -108,16 +96,7 @@ field_at (suc (suc (suc (suc (suc (suc (suc (suc zero)))))))) = field.Batch
 field_at (suc (suc (suc (suc (suc (suc (suc (suc (suc n))))))))) = field.TakeBatch
 
 at_place : (f : Field) → field_at (field_place f) ≡ f
-at_place field.Capacity = refl
-at_place field.Modulus = refl
-at_place field.Width = refl
-at_place field.Items = refl
-at_place field.Takes = refl
-at_place field.Close = refl
-at_place field.Schedule = refl
-at_place field.Oracle = refl
-at_place field.Batch = refl
-at_place field.TakeBatch = refl
+at_place f = grind arith
 
 -- the first n fields have this property
 abbrev pub Before : (Field → Type 0) → ℕ → Type 0
@@ -135,13 +114,7 @@ first_of : (P : Field → Type 0) (f : Field) → Before (λ g. ¬ P g) (field_p
 first_of P f before so = record { so = so; least = before_all (λ g. ¬ P g) (field_place f) before }
 
 one_first : (P : Field → Type 0) (f g : Field) → IsFirst P f → IsFirst P g → f ≡ g
-one_first P f g a b = elim (cases_lt (field_place f) (field_place g)) [
-  | inl before ↦ absurd (b.least f before a.so)
-  | inr upto ↦ elim (cases_lt (field_place g) (field_place f)) [
-    | inl after ↦ absurd (a.least g after b.so)
-    | inr since ↦ sym (at_place f) ∙ ap field_at (omega (arith, upto, since)) ∙ at_place g
-  ]
-]
+one_first P f g a b = grind arith
 
 -- the fault is that of the first field with the property
 abbrev pub IsOfFirst : (Field → Type 0) → (Field → ScriptFault) → ScriptFault → Type 0
@@ -159,20 +132,15 @@ pub record Tells {A : Type 0} (P : Field → Type 0) (fault : Field → ScriptFa
 pub next_field : {A B : Type 0} (P : Field → Type 0) (fault : Field → ScriptFault) (f : Field) (r : Result A ScriptFault) (others : A → Result B ScriptFault) (x : ScriptFault)
     → Tells P fault f r → Before (λ g. ¬ P g) (field_place f) → result_and_then r others ≡ Err x
     → ((a : A) → Before (λ g. ¬ P g) (field_place f) × ¬ P f → others a ≡ Err x → IsOfFirst P fault x) → IsOfFirst P fault x
-next_field P fault f r others x tells before e later = elim (and_then_err r others x e) [
-  | inl n ↦ let is = tells.so x n in (f, is.0, first_of P f before is.1)
-  | inr ok ↦ later ok.0 (before, tells.not_so ok.0 ok.1) ok.2
-]
+next_field P fault f r others x tells before e later = grind arith
 
 -- ---- values
 
 found_is : (f : Field) (o : Option Data) (v : Data) → found f o ≡ Ok v → o ≡ Some v
-found_is f (Some w) v e = cc
-found_is f None v e = cc
+found_is f o v h1 = grind arith
 
 not_found : (f : Field) (o : Option Data) (x : ScriptFault) → found f o ≡ Err x → (x ≡ MissingField f) × (o ≡ None)
-not_found f (Some w) x e = cc
-not_found f None x e = let same : MissingField f ≡ x = cc in (sym same, refl)
+not_found f o x h1 = search rules
 
 -- the members have these values
 pub record HasValues (ms : Members) (vs : FieldValues) : Type 0 where
@@ -189,28 +157,7 @@ pub record HasValues (ms : Members) (vs : FieldValues) : Type 0 where
 
 pub values_from : (ms : Members) (vs : FieldValues) → field_values (object ms) ≡ Ok vs → HasValues ms vs
 unfolding field_values
-values_from ms vs e =
-    let p1 = and_then_ok (field_of field.Capacity (object ms)) _ vs e in
-    let p2 = and_then_ok (field_of field.Modulus (object ms)) _ vs p1.2 in
-    let p3 = and_then_ok (field_of field.Width (object ms)) _ vs p2.2 in
-    let p4 = and_then_ok (field_of field.Items (object ms)) _ vs p3.2 in
-    let p5 = and_then_ok (field_of field.Takes (object ms)) _ vs p4.2 in
-    let p6 = and_then_ok (field_of field.Close (object ms)) _ vs p5.2 in
-    let p7 = and_then_ok (field_of field.Schedule (object ms)) _ vs p6.2 in
-    let p8 = and_then_ok (field_of field.Oracle (object ms)) _ vs p7.2 in
-    let same = ok_is _ vs p8.2 in
-    record {
-      capacity = found_is _ _ _ p1.1 ∙ ap (λ (r : FieldValues). Some r.capacity) same;
-      modulus = found_is _ _ _ p2.1 ∙ ap (λ (r : FieldValues). Some r.modulus) same;
-      width = found_is _ _ _ p3.1 ∙ ap (λ (r : FieldValues). Some r.width) same;
-      items = found_is _ _ _ p4.1 ∙ ap (λ (r : FieldValues). Some r.items) same;
-      takes = found_is _ _ _ p5.1 ∙ ap (λ (r : FieldValues). Some r.takes) same;
-      close = found_is _ _ _ p6.1 ∙ ap (λ (r : FieldValues). Some r.close) same;
-      schedule = found_is _ _ _ p7.1 ∙ ap (λ (r : FieldValues). Some r.schedule) same;
-      oracle = found_is _ _ _ p8.1 ∙ ap (λ (r : FieldValues). Some r.oracle) same;
-      batch = ap (λ (r : FieldValues). r.batch) same;
-      take_batch = ap (λ (r : FieldValues). r.take_batch) same;
-    }
+values_from ms vs e = search (rules, and_then_ok, found_is, ok_is)
 
 pub values_to : (ms : Members) (vs : FieldValues) → HasValues ms vs → field_values (object ms) ≡ Ok vs
 unfolding field_values
@@ -221,40 +168,17 @@ has_none ms f v s m = let n : held_as f ms ≡ None = m.1 in cc
 
 -- a needed field is found or missing
 finds : (ms : Members) (f : Field) → is_needed f ≡ true → Tells (IsMissing ms) MissingField f (found f (held_as f ms))
-finds ms f needed = record {
-  so = λ x e. let n = not_found f (held_as f ms) x e in (n.0, (needed, n.1));
-  not_so = λ v e. has_none ms f v (found_is f (held_as f ms) v e);
-}
+finds ms f needed = search (rules, found_is, has_none, not_found)
 
 pub values_missing : (ms : Members) (x : ScriptFault) → field_values (object ms) ≡ Err x → IsOfFirst (IsMissing ms) MissingField x
 unfolding field_values
-values_missing ms x e =
-    next_field _ _ field.Capacity _ _ x (finds ms field.Capacity refl) tt e (λ _ b1 e1.
-    next_field _ _ field.Modulus _ _ x (finds ms field.Modulus refl) b1 e1 (λ _ b2 e2.
-    next_field _ _ field.Width _ _ x (finds ms field.Width refl) b2 e2 (λ _ b3 e3.
-    next_field _ _ field.Items _ _ x (finds ms field.Items refl) b3 e3 (λ _ b4 e4.
-    next_field _ _ field.Takes _ _ x (finds ms field.Takes refl) b4 e4 (λ _ b5 e5.
-    next_field _ _ field.Close _ _ x (finds ms field.Close refl) b5 e5 (λ _ b6 e6.
-    next_field _ _ field.Schedule _ _ x (finds ms field.Schedule refl) b6 e6 (λ _ b7 e7.
-    next_field _ _ field.Oracle _ _ x (finds ms field.Oracle refl) b7 e7 (λ _ b8 e8. absurd (ok_not_err _ x e8)))))))))
+values_missing ms x e = grind arith
 
 pub all_there : (ms : Members) (vs : FieldValues) → HasValues ms vs → (f : Field) → ¬ IsMissing ms f
-all_there ms vs h field.Capacity = has_none ms field.Capacity vs.capacity h.capacity
-all_there ms vs h field.Modulus = has_none ms field.Modulus vs.modulus h.modulus
-all_there ms vs h field.Width = has_none ms field.Width vs.width h.width
-all_there ms vs h field.Items = has_none ms field.Items vs.items h.items
-all_there ms vs h field.Takes = has_none ms field.Takes vs.takes h.takes
-all_there ms vs h field.Close = has_none ms field.Close vs.close h.close
-all_there ms vs h field.Schedule = has_none ms field.Schedule vs.schedule h.schedule
-all_there ms vs h field.Oracle = has_none ms field.Oracle vs.oracle h.oracle
-all_there ms vs h field.Batch = λ m. true≢false (sym m.0)
-all_there ms vs h field.TakeBatch = λ m. true≢false (sym m.0)
+all_there ms vs h1 f = grind arith
 
 pub missing_told : (ms : Members) (f : Field) → IsFirst (IsMissing ms) f → field_values (object ms) ≡ Err (MissingField f)
-missing_told ms f first = elim (field_values (object ms)) as (λ r. field_values (object ms) ≡ r → r ≡ Err (MissingField f)) [
-  | Ok vs ↦ λ e. absurd (all_there ms vs (values_from ms vs e) f first.so)
-  | Err x ↦ λ e. ap Err (first_told (IsMissing ms) MissingField x f (values_missing ms x e) first)
-] refl
+missing_told ms f first = grind (arith, all_there, first_told, values_from, values_missing)
 
 pub values_there : (ms : Members) → ((f : Field) → ¬ IsMissing ms f) → (vs : FieldValues) × HasValues ms vs
 values_there ms h = elim (field_values (object ms)) as (λ r. field_values (object ms) ≡ r → (vs : FieldValues) × HasValues ms vs) [

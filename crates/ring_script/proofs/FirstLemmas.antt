@@ -15,8 +15,7 @@ NoneOf t [] = Unit {0}
 NoneOf t (x ∷ xs) = (t x ≡ false) × NoneOf t xs
 
 none_at : (test : Bool) (i : ℕ) (o : Option ℕ) (A : Type 0) → cond test (Some i) o ≡ None → (o ≡ None → A) → (test ≡ false) × A
-none_at true i o A e later = cc
-none_at false i o A e later = (refl, later e)
+none_at test i o A h1 h2 = grind arith
 
 none_from : (t : ℕ → Bool) (i : ℕ) (xs : List ℕ) → position_from t i xs ≡ None → NoneOf t xs
 none_from t i [] e = tt
@@ -37,17 +36,12 @@ one_further Good Behind x i j p xs next to from found = (
 
 -- and one that may not come there is the first
 pub at_once : (Good : List ℕ → Type 0) (x i p : ℕ) (xs : List ℕ) → Some i ≡ Some p → Good [] → ¬ Good (x ∷ []) → (k : ℕ) × (p ≡ i + k) × IsFirstStray Good (x ∷ xs) k
-at_once Good x i p xs e none bad =
-    let same : i ≡ p = cc in
-    (0, omega (arith, same), record { within = omega arith; before = none; no_more = bad })
+at_once Good x i p xs e none bad = grind arith
 
 -- it is the first of any form that the same lists have
 pub of_form : (Good Form : List ℕ → Type 0) (p : ℕ) (xs : List ℕ) → ((ys : List ℕ) → Good ys → Form ys) → ((ys : List ℕ) → Form ys → Good ys)
     → (k : ℕ) × (p ≡ 0 + k) × IsFirstStray Good xs k → IsFirstStray Form xs p
-of_form Good Form p xs to from found =
-    let same : found.0 ≡ p = omega (arith, found.1) in
-    let stray = subst (IsFirstStray Good xs) same found.2 in
-    record { within = stray.within; before = to (take p xs) stray.before; no_more = λ f. stray.no_more (from (take (suc p) xs) f) }
+of_form Good Form p xs to from found = grind arith
 
 stop_at : (test : Bool) (t : ℕ → Bool) (i x p : ℕ) (xs : List ℕ) → t x ≡ test → cond test (Some i) (position_from t (i + 1) xs) ≡ Some p
     → (position_from t (i + 1) xs ≡ Some p → (k : ℕ) × (p ≡ (i + 1) + k) × IsFirstStray (NoneOf t) xs k)
@@ -60,8 +54,7 @@ stop_from t i p [] e = cc
 stop_from t i p (x ∷ xs) e = stop_at (t x) t i x p xs refl e (stop_from t (i + 1) p xs)
 
 first_stops : (test : Bool) (t : ℕ → Bool) (i x : ℕ) (o : Option ℕ) → t x ≡ test → ¬ NoneOf t (x ∷ []) → cond test (Some i) o ≡ Some (i + 0)
-first_stops false t i x o is bad = absurd (bad (is, tt))
-first_stops true t i x o is bad = ap Some (omega arith)
+first_stops test t i x o h1 h2 = grind arith
 
 stop_to : (t : ℕ → Bool) (i k : ℕ) (xs : List ℕ) → NoneOf t (take k xs) → ¬ NoneOf t (take (suc k) xs) → position_from t i xs ≡ Some (i + k)
 stop_to t i zero [] good bad = absurd (bad tt)
@@ -85,10 +78,7 @@ pub position_first : (Form : List ℕ → Type 0) (t : ℕ → Bool) → IsTeste
 position_first Form t own xs p e = of_form (NoneOf t) Form p xs own.from own.to (stop_from t 0 p xs (sym (position_from-zero t xs) ∙ e))
 
 pub first_position : (Form : List ℕ → Type 0) (t : ℕ → Bool) → IsTested Form t → (xs : List ℕ) (p : ℕ) → IsFirstStray Form xs p → position t xs ≡ Some p
-first_position Form t own xs p s =
-    position_from-zero t xs
-    ∙ stop_to t 0 p xs (own.to (take p xs) s.before) (λ n. s.no_more (own.from (take (suc p) xs) n))
-    ∙ ap Some (omega arith)
+first_position Form t own xs p s = grind (arith, position_from-zero, stop_to)
 
 -- ---- items that fit
 
@@ -115,12 +105,10 @@ answer_back : (x : ℕ) → is_no_answer x ≡ false → x ≡ answer_byte (x ==
 answer_back x e = grind arith
 
 answer_test : (a : Bool) → is_no_answer (answer_byte a) ≡ false
-answer_test true = refl
-answer_test false = refl
+answer_test a = grind arith
 
 answer_again : (a : Bool) → (answer_byte a == 49) ≡ a
-answer_again true = refl
-answer_again false = refl
+answer_again a = grind arith
 
 -- the answers of a clean text
 pub answers_from : (text : List ℕ) → NoneOf is_no_answer text → IsOracle text (map (λ b. b == 49) text)

@@ -1,5 +1,5 @@
 -- The reading of a schedule's text byte by byte agrees with its grammar.
-use Rattle.std.proofs.Common.{◌≡◌, ◌∙◌, ◌≤◌, ◌<◌, ◌+◌, ◌-◌, ◌*◌, ℕ, zero, suc, max, Bool, true, false, List, [], ◌∷◌, ◌++◌, length, replicate, take, Some, None, refl, sym, ap, ap₂, subst, arith, true≢false, ◌^◌, get_or}
+use Rattle.std.proofs.Common.{rules, ◌≡◌, ◌∙◌, ◌≤◌, ◌<◌, ◌+◌, ◌*◌, ℕ, zero, suc, max, Bool, true, false, List, [], ◌∷◌, ◌++◌, length, take, Some, None, refl, sym, ap, ap₂, subst, arith, true≢false, ◌^◌, get_or}
 use Rattle.std.specs.Prelude.{if◌then◌else◌, decimal}
 use Rattle.std.proofs.lemmas.Fmt.{decimal_is_IsNumeral, first_decimal}
 use Rattle.std.specs.List.{flat_map}
@@ -9,7 +9,6 @@ use Rattle.std.proofs.lemmas.Str.{digit_value_digit}
 use Rattle.std.proofs.lemmas.Str.Parse.{digit_from_value}
 use Rattle.std.proofs.lemmas.List.{append-nil}
 use Rattle.bits_core.specs.declared.events.Side.{Side}
-use Rattle.bits_core.specs.declared.events.Side.TheVariants.{P, C}
 use Rattle.ring_script.proofs.FirstLemmas.{at_once, of_form, one_further}
 use Rattle.ring_script.specs.Faults.{IsFirstStray}
 use Rattle.ring_script.specs.Schedule.{IsLetterCount, IsSchedule, IsScheduleText, Part, letters_counted, letter_of, part_letters, part_text}
@@ -24,8 +23,7 @@ Stands before (b ∷ rest) = (may_stand before b ≡ true) × Stands b rest
 
 stands_at : (t : Bool) (place b : ℕ) (rest : List ℕ) → (if t then stray_from (suc place) b rest else Some place) ≡ None
     → (stray_from (suc place) b rest ≡ None → Stands b rest) → (t ≡ true) × Stands b rest
-stands_at true place b rest e later = (refl, later e)
-stands_at false place b rest e later = cc
+stands_at t place b rest h1 h2 = grind arith
 
 stands_from : (place before : ℕ) (text : List ℕ) → stray_from place before text ≡ None → Stands before text
 unfolding stray_from
@@ -49,8 +47,7 @@ stop_from place before p [] e = cc
 stop_from place before p (b ∷ rest) e = stop_at (may_stand before b) place before b p rest refl e (stop_from (suc place) b p rest)
 
 first_stops : (t : Bool) (place before b : ℕ) (rest : List ℕ) → may_stand before b ≡ t → ¬ Stands before (b ∷ []) → (if t then stray_from (suc place) b rest else Some place) ≡ Some (place + 0)
-first_stops true place before b rest is bad = absurd (bad (is, tt))
-first_stops false place before b rest is bad = ap Some (omega arith)
+first_stops t place before b rest h1 h2 = grind arith
 
 stop_to : (place before k : ℕ) (text : List ℕ) → Stands before (take k text) → ¬ Stands before (take (suc k) text) → stray_from place before text ≡ Some (place + k)
 unfolding stray_from
@@ -75,23 +72,19 @@ digit_below : (c : ℕ) → 48 ≤ c → c ≤ 57 → digit_value c < 10
 digit_below c low high = omega (arith, digit_value_digit c (low, high))
 
 letter_stands : (before : ℕ) (s : Side) → may_stand before (letter_of s) ≡ true
-letter_stands before P = refl
-letter_stands before C = refl
+letter_stands before s = grind arith
 
 letter_no_digit : (s : Side) → is_digit (letter_of s) ≡ false
-letter_no_digit P = refl
-letter_no_digit C = refl
+letter_no_digit s = grind arith
 
 side_letter : (s : Side) → letter_side (letter_of s) ≡ s
-side_letter P = refl
-side_letter C = refl
+side_letter s = grind arith
 
 digit_after_digit : (before c : ℕ) → is_digit before ≡ true → is_digit c ≡ true → may_stand before c ≡ true
 digit_after_digit before c b d = grind arith
 
 digit_after_letter : (s : Side) (c : ℕ) → 48 < c → c ≤ 57 → may_stand (letter_of s) c ≡ true
-digit_after_letter P c low high = grind arith
-digit_after_letter C c low high = grind arith
+digit_after_letter s c h1 h2 = search rules
 
 first_of_count : (b c : ℕ) → is_letter b ≡ true → may_stand b c ≡ true → 48 ≤ c → c ≤ 57 → 48 < c
 first_of_count b c l e low high = grind arith
@@ -112,8 +105,7 @@ digits_stand (c ∷ cs) d before e rest h =
     (digit_after_digit before c e digit, digits_stand cs d.1 c digit rest h)
 
 count_stands : (s : Side) (ds : List ℕ) → IsLetterCount ds → (rest : List ℕ) → ((b : ℕ) → Stands b rest) → Stands (letter_of s) (ds ++ rest)
-count_stands s [] c rest h = h (letter_of s)
-count_stands s (b ∷ more) c rest h = (digit_after_letter s b c.0 c.1, digits_stand more c.2 b (digit_is b (omega (arith, c.0)) c.1) rest h)
+count_stands s ds h1 rest h2 = grind (arith, digit_after_letter, digit_is, digits_stand)
 
 parts_stand : (ps : List Part) (before : ℕ) → Stands before (flat_map part_text ps)
 parts_stand [] before = tt
@@ -122,41 +114,27 @@ parts_stand (p ∷ ps) before = (letter_stands before p.side, count_stands p.sid
 digits_letters : (s : Side) (n : ℕ) (ds : List ℕ) → AllDigits 10 ds → (rest : List ℕ) → letters_after s n (ds ++ rest) ≡ letters_after s (digits_value_after 10 n ds) rest
 unfolding letters_after
 digits_letters s n [] d rest = refl
-digits_letters s n (c ∷ cs) d rest =
-    let range = digit_from_value c d.0 in
-    let value : 10 * n + (c - 48) ≡ n * 10 + digit_value c = omega (arith, digit_value_digit c range, range.0) in
-    rw (digit_is c range.0 range.1, value) (digits_letters s (n * 10 + digit_value c) cs d.1 rest)
+digits_letters s n (c ∷ cs) d rest = grind (arith, digit_from_value, digit_is, digit_value_digit, (digits_letters s (n * 10 + digit_value c) cs d.1 rest))
 
 value_grows : (n : ℕ) (ds : List ℕ) → n ≤ digits_value_after 10 n ds
 value_grows n [] = omega arith
 value_grows n (c ∷ cs) = omega (arith, value_grows (n * 10 + digit_value c) cs)
 
 count_is : (ds : List ℕ) → IsLetterCount ds → max 1 (digits_value_after 10 0 ds) ≡ letters_counted ds
-count_is [] c = refl
-count_is (b ∷ more) c =
-    omega (arith, value_grows (0 * 10 + digit_value b) more, digit_value_digit b (omega (arith, c.0), c.1), c.0)
+count_is ds h1 = grind (arith, digit_value_digit, value_grows)
 
 count_digits : (ds : List ℕ) → IsLetterCount ds → AllDigits 10 ds
-count_digits [] c = tt
-count_digits (b ∷ more) c = (digit_below b (omega (arith, c.0)) c.1, c.2)
+count_digits ds h1 = grind arith
 
 parts_letters : (s : Side) (n : ℕ) (ps : List Part) → letters_after s n (flat_map part_text ps) ≡ times n s ++ flat_map part_letters ps
 unfolding letters_after
 parts_letters s n [] = sym (append-nil (times n s))
-parts_letters s n (p ∷ ps) =
-    rw (letter_no_digit p.side, side_letter p.side)
-    (ap (λ (l : List Side). times n s ++ l) (digits_letters p.side 0 p.count (count_digits p.count p.proper) (flat_map part_text ps)
-    ∙ parts_letters p.side (digits_value_after 10 0 p.count) ps
-    ∙ ap (λ (m : ℕ). replicate m p.side ++ flat_map part_letters ps) (count_is p.count p.proper)))
+parts_letters s n (p ∷ ps) = grind (arith, count_digits, count_is, digits_letters, letter_no_digit, side_letter, (parts_letters p.side (digits_value_after 10 0 p.count) ps))
 
 parts_spell : (ps : List Part) → letters_of (flat_map part_text ps) ≡ flat_map part_letters ps
 unfolding letters_of
 parts_spell [] = refl
-parts_spell (p ∷ ps) =
-    rw (side_letter p.side)
-    (digits_letters p.side 0 p.count (count_digits p.count p.proper) (flat_map part_text ps)
-    ∙ parts_letters p.side (digits_value_after 10 0 p.count) ps
-    ∙ ap (λ (m : ℕ). replicate m p.side ++ flat_map part_letters ps) (count_is p.count p.proper))
+parts_spell (p ∷ ps) = grind (arith, count_digits, count_is, digits_letters, parts_letters, side_letter)
 
 -- ---- what is read is parts
 
@@ -172,10 +150,7 @@ record Front (before : ℕ) (text : List ℕ) : Type 0 where
   opens : Opens before digits
 
 proper_from : (b : ℕ) → is_letter b ≡ true → (ds : List ℕ) → Opens b ds → AllDigits 10 ds → IsLetterCount ds
-proper_from b l [] o d = tt
-proper_from b l (c ∷ cs) o d =
-    let range = digit_from_value c d.0 in
-    (first_of_count b c l o range.0 range.1, range.1, d.1)
+proper_from b h1 ds h2 h3 = grind (arith, digit_from_value, first_of_count)
 
 front_at : (letter digit : Bool) (before b : ℕ) (rest : List ℕ) → is_letter b ≡ letter → is_digit b ≡ digit → may_stand before b ≡ true → Front b rest → Front before (b ∷ rest)
 front_at true digit before b rest l d stands later = record {
@@ -201,17 +176,13 @@ front_from before [] s = record { digits = []; parts = []; written = refl; all_d
 front_from before (b ∷ rest) s = front_at (is_letter b) (is_digit b) before b rest refl refl s.0 (front_from b rest s.1)
 
 parts_at : (text ds : List ℕ) (ps : List Part) → text ≡ ds ++ flat_map part_text ps → AllDigits 10 ds → Opens 0 ds → text ≡ flat_map part_text ps
-parts_at text [] ps e d o = e
-parts_at text (c ∷ cs) ps e d o = let range = digit_from_value c d.0 in absurd (never_first c o range.0 range.1)
+parts_at text ds ps h1 h2 h3 = grind (arith, digit_from_value, never_first)
 
 schedule_stands : (text : List ℕ) (letters : List Side) → IsSchedule text letters → Stands 0 text
 schedule_stands text letters s = subst (λ (t : List ℕ). Stands 0 t) (sym s.written) (parts_stand s.parts 0)
 
 stands_schedule : (text : List ℕ) → Stands 0 text → IsSchedule text (letters_of text)
-stands_schedule text s =
-    let f = front_from 0 text s in
-    let written = parts_at text f.digits f.parts f.written f.all_digits f.opens in
-    record { parts = f.parts; written = written; spelled = ap letters_of written ∙ parts_spell f.parts }
+stands_schedule text s = search (rules, front_from, parts_at, parts_spell)
 
 -- ---- the grammar
 
@@ -237,10 +208,7 @@ stray_found text place s =
 
 -- what is written for a number from 1 on is a count
 count_at : (ds : List ℕ) (n : ℕ) → 0 < length ds → AllDigits 10 ds → 48 < get_or ds 0 0 → digits_value 10 ds ≡ n → IsLetterCount ds × (letters_counted ds ≡ n)
-count_at [] n some all first e = absurd (omega (arith, some))
-count_at (b ∷ more) n some all first e = ((first, (digit_from_value b all.0).1, all.1), e)
+count_at ds n h1 h2 h3 h4 = grind arith
 
 pub decimal_is_count : (n : ℕ) → 0 < n → n < 2 ^ 64 → IsLetterCount (decimal n) × (letters_counted (decimal n) ≡ n)
-decimal_is_count n some small =
-    let k = decimal_is_IsNumeral n small in
-    count_at (decimal n) n k.0.0 k.0.1 (first_decimal n some small) k.1
+decimal_is_count n some small = grind (arith, (decimal_is_IsNumeral n small), (first_decimal n some small), count_at)

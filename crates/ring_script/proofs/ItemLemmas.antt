@@ -1,5 +1,5 @@
 -- The items of an array as whole numbers.
-use Rattle.std.proofs.Common.{◌≡◌, ◌∙◌, ◌≤◌, ◌<◌, ◌+◌, ℕ, List, [], ◌∷◌, ◌++◌, length, get_or, drop, Option, Some, None, option_map, sym, ap, append_assoc}
+use Rattle.std.proofs.Common.{arith, ◌≡◌, ◌∙◌, ◌≤◌, ◌<◌, ◌+◌, ℕ, List, [], ◌∷◌, ◌++◌, length, get_or, drop, Option, Some, None, option_map, sym, ap, append_assoc}
 use Rattle.std.specs.Prelude.{option_and_then}
 use Rattle.std.proofs.lemmas.List.{at_drop_more, at_drop_all, append-nil}
 use Rattle.serde_json.specs.View.{view, items_view}
@@ -17,8 +17,7 @@ not_whole list i d done h is e =
 
 one_more : (w : Option ℕ) (o : Option (List ℕ)) (n : ℕ) (done : List ℕ) → Some n ≡ w
     → option_map (λ ns. done ++ ns) (option_and_then (λ n. option_map (λ ns. n ∷ ns) o) w) ≡ option_map (λ ns. (done ++ n ∷ []) ++ ns) o
-one_more w None n done e = rw (sym e)
-one_more w (Some ns) n done e = rw (sym e) (ap Some (sym (append_assoc done (n ∷ []) ns)))
+one_more w o n done h1 = grind (arith, append_assoc)
 
 pub whole_next : (list : List Value) (i : ℕ) (d : Value) (n : ℕ) (done : List ℕ) → i < length list → d ≡ get_or list i d → Some n ≡ whole_of (view d)
     → option_map (λ ns. done ++ ns) (wholes_of (items_view (drop i list))) ≡ option_map (λ ns. (done ++ n ∷ []) ++ ns) (wholes_of (items_view (drop (i + 1) list)))

@@ -1,5 +1,5 @@
 -- The kinds of the fields' values that are read, and those that the object has.
-use Rattle.std.proofs.Common.{◌≡◌, ◌∙◌, ℕ, Bool, List, [], ◌∷◌, Option, Some, None, Ok, Err, option_map, refl, sym, ap, ap₂, subst, inl, inr}
+use Rattle.std.proofs.Common.{arith, rules, ◌≡◌, ◌∙◌, ℕ, Bool, List, [], ◌∷◌, Option, Some, None, Ok, Err, option_map, refl, sym, ap, ap₂, subst}
 use Rattle.std.specs.Prelude.{option_and_then}
 use Rattle.serde_json.specs.Data.{unsigned, Data, boolean, number, string, array, Items as ItemData, no_items, item, Members}
 use Rattle.serde_json.specs.Find.{as_array, as_bool, as_str}
@@ -16,24 +16,19 @@ use Rattle.ring_script.specs.declared.faults.ScriptFault.TheVariants.{WrongKind}
 -- ---- the value of each kind
 
 kind_is : {A : Type 0} (f : Field) (o : Option A) (v : A) → of_kind f o ≡ Ok v → o ≡ Some v
-kind_is f (Some w) v e = cc
-kind_is f None v e = cc
+kind_is f o v h1 = grind arith
 
 not_kind : {A : Type 0} (f : Field) (o : Option A) (x : ScriptFault) → of_kind f o ≡ Err x → (x ≡ WrongKind f) × (o ≡ None)
-not_kind f (Some w) x e = cc
-not_kind f None x e = let same : WrongKind f ≡ x = cc in (sym same, refl)
+not_kind f o x h1 = search rules
 
 whole_is : (v : Data) (n : ℕ) → whole_of v ≡ Some n → v ≡ number (unsigned n)
-whole_is (number (unsigned m)) n e = cc
-whole_is _ n e = cc
+whole_is v n h1 = grind arith
 
 bool_is : (v : Data) (b : Bool) → as_bool v ≡ Some b → v ≡ boolean b
-bool_is (boolean b) n e = cc
-bool_is _ n e = cc
+bool_is v b h1 = grind arith
 
 text_is : (v : Data) (t : List ℕ) → as_str v ≡ Some t → v ≡ string t
-text_is (string s) n e = cc
-text_is _ n e = cc
+text_is v t h1 = grind arith
 
 wholes_again : (ns : List ℕ) → wholes_of (wholes ns) ≡ Some ns
 unfolding wholes_of
@@ -42,9 +37,7 @@ wholes_again (n ∷ ns) = rw (wholes_again ns) refl
 
 wholes_at : (w : Option ℕ) (o : Option (List ℕ)) (ns : List ℕ) → option_and_then (λ n. option_map (λ ms. n ∷ ms) o) w ≡ Some ns
     → (n : ℕ) × (ms : List ℕ) × (w ≡ Some n) × (o ≡ Some ms) × (ns ≡ n ∷ ms)
-wholes_at None o ns e = cc
-wholes_at (Some n) None ns e = cc
-wholes_at (Some n) (Some ms) ns e = let same : n ∷ ms ≡ ns = cc in (n, ms, refl, refl, sym same)
+wholes_at w o ns h1 = grind arith
 
 wholes_are : (ds : ItemData) (ns : List ℕ) → wholes_of ds ≡ Some ns → ds ≡ wholes ns
 unfolding wholes_of
@@ -54,8 +47,7 @@ wholes_are (item d ds) ns e =
     ap₂ (λ (v : Data) (vs : ItemData). item v vs) (whole_is d parts.0 parts.2) (wholes_are ds parts.1 parts.3) ∙ ap wholes (sym parts.4)
 
 items_is : (v : Data) (ns : List ℕ) → option_and_then wholes_of (as_array v) ≡ Some ns → v ≡ array (wholes ns)
-items_is (array ds) n e = ap array (wholes_are ds n e)
-items_is _ n e = cc
+items_is v ns h1 = grind (arith, wholes_are)
 
 -- a value is of the kind if something of the kind is read, and of another if nothing is
 some_not_none : {A : Type 0} (o : Option A) (a : A) → o ≡ Some a → o ≡ None → ⊥
@@ -88,12 +80,10 @@ no_list v e k = some_not_none (option_and_then wholes_of (as_array v)) k.0 (ap (
 -- ---- the batches
 
 batch_at : (f : Field) (ms : Members) (o : Option Data) (n : ℕ) → held_as f ms ≡ o → batch_in f o ≡ Ok n → HasBatchField f ms n
-batch_at f ms None n is e = let one : 1 ≡ n = ok_is _ _ e in inl (is, sym one)
-batch_at f ms (Some v) n is e = inr (is ∙ ap Some (whole_is v n (kind_is f (whole_of v) n e)))
+batch_at f ms o n h1 h2 = grind arith
 
 batch_read : (f : Field) (ms : Members) (o : Option Data) (n : ℕ) → held_as f ms ≡ o → HasBatchField f ms n → batch_in f o ≡ Ok n
-batch_read f ms o n is (inl left) = ap (batch_in f) (sym is ∙ left.0) ∙ ap Ok (sym left.1)
-batch_read f ms o n is (inr given) = ap (batch_in f) (sym is ∙ given)
+batch_read f ms o n h1 h2 = grind arith
 
 -- ---- the fields
 
@@ -142,23 +132,13 @@ same_some o a b s t = cc
 
 pub kinds_to : (ms : Members) (vs : FieldValues) (ts : HeldFields) → HasValues ms vs → HasKinds ms ts → typed_of vs ≡ Ok ts
 unfolding typed_of
-kinds_to ms vs ts h k =
-    let e1 : vs.capacity ≡ number (unsigned ts.capacity) = same_some _ _ _ h.capacity k.capacity in
-    let e2 : vs.modulus ≡ number (unsigned ts.modulus) = same_some _ _ _ h.modulus k.modulus in
-    let e3 : vs.width ≡ number (unsigned ts.width) = same_some _ _ _ h.width k.width in
-    let e4 : vs.items ≡ array (wholes ts.items) = same_some _ _ _ h.items k.items in
-    let e5 : vs.takes ≡ number (unsigned ts.takes) = same_some _ _ _ h.takes k.takes in
-    let e6 : vs.close ≡ boolean ts.close = same_some _ _ _ h.close k.close in
-    let e7 : vs.schedule ≡ string ts.schedule = same_some _ _ _ h.schedule k.schedule in
-    let e8 : vs.oracle ≡ string ts.oracle = same_some _ _ _ h.oracle k.oracle in
-    rw (e1, e2, e3, e4, e5, e6, e7, e8, wholes_again ts.items, batch_read field.Batch ms vs.batch ts.batch h.batch k.batch, batch_read field.TakeBatch ms vs.take_batch ts.take_batch h.take_batch k.take_batch)
+kinds_to ms vs ts h k = grind (arith, batch_read, same_some, wholes_again)
 
 right_kind : (ms : Members) (f : Field) (v : Data) → held_as f ms ≡ Some v → IsOfKind f v → ¬ IsOfWrongKind ms f
 right_kind ms f v held kind w = w.2 (subst (IsOfKind f) (same_some _ _ _ held w.1) kind)
 
 right_batch : (ms : Members) (f : Field) (n : ℕ) → ((n : ℕ) → IsOfKind f (number (unsigned n))) → HasBatchField f ms n → ¬ IsOfWrongKind ms f
-right_batch ms f n kind (inl left) w = some_not_none _ w.0 w.1 left.0
-right_batch ms f n kind (inr given) w = right_kind ms f (number (unsigned n)) given (kind n) w
+right_batch ms f n h1 h2 = grind arith
 
 -- if something is read only from values of the field's kind, the result says whether the field is of the wrong kind
 reads : {A : Type 0} (ms : Members) (f : Field) (v : Data) (o : Option A) → held_as f ms ≡ Some v → (o ≡ None → ¬ IsOfKind f v) → ((a : A) → o ≡ Some a → IsOfKind f v)
@@ -190,16 +170,7 @@ kinds_wrong ms vs x h e =
     absurd (ok_not_err _ x e10)))))))))))
 
 all_right : (ms : Members) (ts : HeldFields) → HasKinds ms ts → (f : Field) → ¬ IsOfWrongKind ms f
-all_right ms ts k field.Capacity = right_kind ms field.Capacity _ k.capacity (ts.capacity, refl)
-all_right ms ts k field.Modulus = right_kind ms field.Modulus _ k.modulus (ts.modulus, refl)
-all_right ms ts k field.Width = right_kind ms field.Width _ k.width (ts.width, refl)
-all_right ms ts k field.Items = right_kind ms field.Items _ k.items (ts.items, refl)
-all_right ms ts k field.Takes = right_kind ms field.Takes _ k.takes (ts.takes, refl)
-all_right ms ts k field.Close = right_kind ms field.Close _ k.close (ts.close, refl)
-all_right ms ts k field.Schedule = right_kind ms field.Schedule _ k.schedule (ts.schedule, refl)
-all_right ms ts k field.Oracle = right_kind ms field.Oracle _ k.oracle (ts.oracle, refl)
-all_right ms ts k field.Batch = right_batch ms field.Batch ts.batch (λ n. (n, refl)) k.batch
-all_right ms ts k field.TakeBatch = right_batch ms field.TakeBatch ts.take_batch (λ n. (n, refl)) k.take_batch
+all_right ms ts h1 f = grind arith
 
 pub wrong_told : (ms : Members) (vs : FieldValues) (f : Field) → HasValues ms vs → IsFirst (IsOfWrongKind ms) f → typed_of vs ≡ Err (WrongKind f)
 wrong_told ms vs f h first = elim (typed_of vs) as (λ r. typed_of vs ≡ r → r ≡ Err (WrongKind f)) [

@@ -1,10 +1,10 @@
 -- What is read from the parts of a script, its JSON value, names, items, schedule and oracle, is their value or their fault.
-use Rattle.std.proofs.Common.{◌≡◌, ◌≢◌, ◌⊎◌, ◌∙◌, ◌≤◌, ◌<◌, ℕ, Bool, true, false, List, map, length, Option, Some, None, Result, Ok, Err, refl, sym, ap, subst, arith, true≢false, inl, inr}
+use Rattle.std.proofs.Common.{rules, ◌≡◌, ◌≢◌, ◌⊎◌, ◌∙◌, ◌≤◌, ◌<◌, ℕ, Bool, true, false, List, length, Option, Some, None, Result, Ok, Err, refl, sym, ap, arith, true≢false, inl, inr}
 use Rattle.std.specs.Prelude.{position, nat_lt, if◌then◌else◌, ⊤}
 use Rattle.std.specs.Str.{is_utf8}
 use Rattle.std.proofs.lemmas.Str.{IsUtf8-from_is_utf8}
 use Rattle.std.proofs.lemmas.Bool.{ltb-true, ltb-false, lt-ltb, le-ltb}
-use Rattle.serde_json.specs.Data.{Data, null, boolean, number, string, array, object, Members}
+use Rattle.serde_json.specs.Data.{Data, object, Members}
 use Rattle.serde_json.specs.Read.{read}
 use Rattle.serde_json.specs.Find.{as_object}
 use Rattle.bits_core.specs.declared.events.Side.{Side}
@@ -30,8 +30,7 @@ same_err x y e = cc
 -- ---- the JSON value
 
 read_is : (o : Option Data) (d : Data) → if_read o ≡ Ok d → o ≡ Some d
-read_is (Some v) d e = cc
-read_is None d e = cc
+read_is o d h1 = grind arith
 
 json_at : (bytes : List ℕ) (t : Bool) (d : Data) → is_utf8 bytes ≡ t → (if t then if_read (read bytes) else Err fault.NotJson) ≡ Ok d → IsJson bytes d
 json_at bytes true d is e = record { text = IsUtf8-from_is_utf8 bytes is; reads = read_is (read bytes) d e }
@@ -45,12 +44,10 @@ pub json_to : (bytes : List ℕ) (d : Data) → IsJson bytes d → json_of bytes
 json_to bytes d j = json_read bytes d j.text j.reads
 
 not_read : (bytes : List ℕ) (o : Option Data) (x : ScriptFault) → if_read o ≡ Err x → x ≡ fault.NotJson
-not_read bytes (Some v) x e = cc
-not_read bytes None x e = sym (same_err _ x e)
+not_read bytes o x h1 = grind arith
 
 json_why_at : (bytes : List ℕ) (t : Bool) (x : ScriptFault) → (if t then if_read (read bytes) else Err fault.NotJson) ≡ Err x → x ≡ fault.NotJson
-json_why_at bytes true x e = not_read bytes (read bytes) x e
-json_why_at bytes false x e = sym (same_err _ x e)
+json_why_at bytes t x h1 = search (rules, not_read, same_err)
 
 pub json_why : (bytes : List ℕ) (x : ScriptFault) → json_of bytes ≡ Err x → x ≡ fault.NotJson
 unfolding json_of
@@ -60,8 +57,7 @@ pub no_json : (bytes : List ℕ) (x : ScriptFault) → json_of bytes ≡ Err x �
 no_json bytes x e d j = ok_not_err d x (sym (json_to bytes d j) ∙ e)
 
 none_read : (o : Option Data) → ((d : Data) → ¬ (o ≡ Some d)) → o ≡ None
-none_read (Some v) never = absurd (never v refl)
-none_read None never = refl
+none_read o h1 = grind arith
 
 pub json_told : (bytes : List ℕ) → ((d : Data) → ¬ IsJson bytes d) → json_of bytes ≡ Err fault.NotJson
 json_told bytes never = json_refused bytes (λ u. none_read (read bytes) (λ d e. never d (record { text = u; reads = e })))
@@ -73,12 +69,7 @@ names_test true e = refl
 names_test false e = cc
 
 pub names_from : (d : Data) → names_in (as_object d) ≡ Ok tt → (ms : Members) × (d ≡ object ms) × HasKnownNames ms
-names_from null e = cc
-names_from (boolean b) e = cc
-names_from (number m) e = cc
-names_from (string s) e = cc
-names_from (array ds) e = cc
-names_from (object ms) e = (ms, refl, known_from ms (names_test (has_known_names ms) e))
+names_from d h1 = grind (arith, known_from, names_test)
 
 pub names_to : (ms : Members) → HasKnownNames ms → names_in (Some ms) ≡ Ok tt
 names_to ms h = rw (known_to ms h)
@@ -92,20 +83,10 @@ unknown_at ms true x is e = cc
 unknown_at ms false x is e = inr (ms, sym (same_err _ x e), refl, λ h. true≢false (sym (known_to ms h) ∙ is))
 
 pub names_why : (d : Data) (x : ScriptFault) → names_in (as_object d) ≡ Err x → NamesFault d x
-names_why null x e = inl (sym (same_err _ x e), λ ms k. cc)
-names_why (boolean b) x e = inl (sym (same_err _ x e), λ ms k. cc)
-names_why (number m) x e = inl (sym (same_err _ x e), λ ms k. cc)
-names_why (string s) x e = inl (sym (same_err _ x e), λ ms k. cc)
-names_why (array ds) x e = inl (sym (same_err _ x e), λ ms k. cc)
-names_why (object ms) x e = unknown_at ms (has_known_names ms) x refl e
+names_why d x h1 = grind (arith, same_err, unknown_at)
 
 pub no_object : (d : Data) → ((ms : Members) → d ≢ object ms) → names_in (as_object d) ≡ Err fault.NotObject
-no_object null never = refl
-no_object (boolean b) never = refl
-no_object (number m) never = refl
-no_object (string s) never = refl
-no_object (array ds) never = refl
-no_object (object ms) never = absurd (never ms refl)
+no_object d h1 = grind arith
 
 unknown_told_at : (ms : Members) (t : Bool) → has_known_names ms ≡ t → ¬ HasKnownNames ms → (let passed : Result ⊤ ScriptFault = Ok tt in (if t then passed else Err fault.UnknownField) ≡ Err fault.UnknownField)
 unknown_told_at ms true is never = absurd (never (known_from ms is))
@@ -124,8 +105,7 @@ fits_at most w items None is e = (fit_tested w).from items (position_none (is_to
 fits_at most w items (Some p) is e = cc
 
 few_at : (most w : ℕ) (t : Bool) (items : List ℕ) → nat_lt most (length items) ≡ t → (if t then Err fault.TooManyItems else if_fits (position (is_too_wide w) items)) ≡ Ok tt → (length items ≤ most) × Fit w items
-few_at most w true items is e = cc
-few_at most w false items is e = (ltb-false _ _ is, fits_at most w items _ refl e)
+few_at most w t items h1 h2 = grind (arith, fits_at, ltb-false)
 
 pub items_from : (w : ℕ) (items : List ℕ) → items_within w items ≡ Ok tt → (length items ≤ ITEM_LIMIT) × Fit w items
 unfolding items_within
@@ -140,8 +120,7 @@ wide_at w items None x is e = cc
 wide_at w items (Some p) x is e = (p, sym (same_err _ x e), position_first (Fit w) (is_too_wide w) (fit_tested w) items p is)
 
 many_at : (w : ℕ) (t : Bool) (items : List ℕ) (x : ScriptFault) → nat_lt ITEM_LIMIT (length items) ≡ t → (if t then Err fault.TooManyItems else if_fits (position (is_too_wide w) items)) ≡ Err x → ItemsFault w items x
-many_at w true items x is e = inl (sym (same_err _ x e), ltb-true _ _ is)
-many_at w false items x is e = let f = wide_at w items _ x refl e in inr (f.0, f.1, ltb-false _ _ is, f.2)
+many_at w t items x h1 h2 = grind (arith, ltb-false, ltb-true, same_err, wide_at)
 
 pub items_why : (w : ℕ) (items : List ℕ) (x : ScriptFault) → items_within w items ≡ Err x → ItemsFault w items x
 unfolding items_within
@@ -158,28 +137,21 @@ wide_told w items p few first = rw (le-ltb ITEM_LIMIT (length items) few) (ap if
 -- ---- the schedule
 
 stands_is : (o : Option ℕ) (all letters : List Side) → if_stands o all ≡ Ok letters → (o ≡ None) × (if_stands None all ≡ Ok letters)
-stands_is (Some i) all letters e = cc
-stands_is None all letters e = (refl, e)
+stands_is o all letters h1 = grind arith
 
 short_at : (most : ℕ) (t : Bool) (all letters : List Side) (x : ScriptFault) → nat_lt most (length all) ≡ t → (if t then Err x else Ok all) ≡ Ok letters → (letters ≡ all) × (length all ≤ most)
-short_at most true all letters x is e = cc
-short_at most false all letters x is e = (sym (ok_is _ _ e), ltb-false _ _ is)
+short_at most t all letters x h1 h2 = grind arith
 
 short_moved : (most : ℕ) (a b : List Side) → a ≡ b → length b ≤ most → length a ≤ most
 short_moved most a b e h = omega (arith, ap length e)
 
 pub schedule_from : (text : List ℕ) (letters : List Side) → schedule_of text ≡ Ok letters → IsSchedule text letters × (length letters ≤ LETTER_LIMIT)
 unfolding schedule_of
-schedule_from text letters e =
-    let stood = stands_is (stray_in text) (letters_of text) _ e in
-    let spelt = short_at LETTER_LIMIT (nat_lt LETTER_LIMIT (length (letters_of text))) (letters_of text) _ _ refl stood.1 in
-    (subst (IsSchedule text) (sym spelt.0) (clean_schedule text stood.0), short_moved _ _ _ spelt.0 spelt.1)
+schedule_from text letters e = grind (arith, clean_schedule, short_at, short_moved, stands_is)
 
 pub schedule_to : (text : List ℕ) (letters : List Side) → IsSchedule text letters → length letters ≤ LETTER_LIMIT → schedule_of text ≡ Ok letters
 unfolding schedule_of
-schedule_to text letters s short =
-    let spells = schedule_spells text letters s in
-    rw (schedule_clean text letters s) (rw (le-ltb LETTER_LIMIT (length (letters_of text)) (short_moved _ _ _ (sym spells) short)) (ap Ok (sym spells)))
+schedule_to text letters s short = grind (arith, (schedule_clean text letters s), (schedule_spells text letters s), le-ltb, short_moved)
 
 abbrev pub ScheduleFault : List ℕ → ScriptFault → Type 0
 ScheduleFault text x =
@@ -188,8 +160,7 @@ ScheduleFault text x =
 
 long_at : (text : List ℕ) (t : Bool) (x : ScriptFault) → stray_in text ≡ None → nat_lt LETTER_LIMIT (length (letters_of text)) ≡ t
     → (if t then Err fault.ScheduleTooLong else Ok (letters_of text)) ≡ Err x → ScheduleFault text x
-long_at text true x clean is e = inr (letters_of text, sym (same_err _ x e), clean_schedule text clean, ltb-true _ _ is)
-long_at text false x clean is e = cc
+long_at text t x h1 h2 h3 = grind (arith, clean_schedule, ltb-true, same_err)
 
 bad_at : (text : List ℕ) (o : Option ℕ) (x : ScriptFault) → stray_in text ≡ o → if_stands o (letters_of text) ≡ Err x → ScheduleFault text x
 bad_at text (Some p) x is e = inl (p, sym (same_err _ x e), stray_is text p is)
@@ -205,15 +176,12 @@ bad_told text p first = ap (λ o. if_stands o (letters_of text)) (stray_found te
 
 pub long_told : (text : List ℕ) (letters : List Side) → IsSchedule text letters → LETTER_LIMIT < length letters → schedule_of text ≡ Err fault.ScheduleTooLong
 unfolding schedule_of
-long_told text letters s long =
-    let spells = schedule_spells text letters s in
-    rw (schedule_clean text letters s) (rw (lt-ltb LETTER_LIMIT (length (letters_of text)) (omega (arith, long, ap length spells))))
+long_told text letters s long = grind (arith, (schedule_clean text letters s), (schedule_spells text letters s), lt-ltb)
 
 -- ---- the oracle
 
 answers_at : (text : List ℕ) (o : Option ℕ) (bits : List Bool) → position is_no_answer text ≡ o → if_answers o text ≡ Ok bits → IsOracle text bits
-answers_at text (Some p) bits is e = cc
-answers_at text None bits is e = answers_from text (position_none is_no_answer text is) ∙ ap (map _) (ok_is _ _ e)
+answers_at text o bits h1 h2 = grind (arith, answers_from, ok_is, position_none)
 
 pub oracle_from : (text : List ℕ) (bits : List Bool) → oracle_of text ≡ Ok bits → IsOracle text bits
 unfolding oracle_of
@@ -221,8 +189,7 @@ oracle_from text bits e = answers_at text (position is_no_answer text) bits refl
 
 pub oracle_to : (text : List ℕ) (bits : List Bool) → IsOracle text bits → oracle_of text ≡ Ok bits
 unfolding oracle_of
-oracle_to text bits o =
-    ap (λ p. if_answers p text) (none_position is_no_answer text (oracle_clean text bits o)) ∙ ap Ok (sym (oracle_answers text bits o))
+oracle_to text bits o = grind (arith, none_position, oracle_answers, oracle_clean)
 
 abbrev pub OracleFault : List ℕ → ScriptFault → Type 0
 OracleFault text x = (p : ℕ) × (x ≡ fault.BadOracle p) × IsFirstStray IsOracleText text p

@@ -1,5 +1,5 @@
 -- The schedule's letters, byte by byte.
-use Rattle.std.proofs.Common.{◌≡◌, ◌∙◌, ◌≤◌, ◌<◌, ◌+◌, ◌-◌, ◌*◌, ℕ, zero, suc, max, Bool, true, false, List, [], ◌∷◌, ◌++◌, length, replicate, get_or, drop, Some, None, refl, sym, ap, ap₂, arith, add-one, append_assoc}
+use Rattle.std.proofs.Common.{◌≡◌, ◌∙◌, ◌≤◌, ◌<◌, ◌+◌, ◌-◌, ◌*◌, ℕ, zero, suc, max, Bool, true, false, List, [], ◌∷◌, ◌++◌, length, replicate, get_or, drop, Some, None, refl, sym, ap, arith, add-one, append_assoc}
 use Rattle.std.specs.Prelude.{slice_get, if◌then◌else◌}
 use Rattle.std.proofs.lemmas.List.{at_drop_more, at_drop_all, length-append, length-replicate, append-nil, nil_from_length}
 use Rattle.bits_core.specs.declared.events.Side.{Side}
@@ -11,16 +11,12 @@ use Rattle.ring_script.specs.Schedule.{runs_in, spelled}
 
 pub stray_here : (text : List ℕ) (i before : ℕ) (passes : Bool) → i < length text → passes ≡ may_stand before (get_or text i 0) → passes ≡ false → stray_from i before (drop i text) ≡ Some i
 unfolding stray_from
-stray_here text i before passes h is failed =
-    let e : may_stand before (get_or text i 0) ≡ false = sym is ∙ failed in
-    at_drop_more (stray_from i before) text i 0 h ∙ rw e
+stray_here text i before passes h is failed = grind (arith, (at_drop_more (stray_from i before) text i 0 h))
 
 pub stray_later : (text : List ℕ) (i before : ℕ) (passes : Bool) → i < length text → passes ≡ may_stand before (get_or text i 0) → passes ≡ true
     → stray_from i before (drop i text) ≡ stray_from (i + 1) (get_or text i 0) (drop (i + 1) text)
 unfolding stray_from
-stray_later text i before passes h is passed =
-    let e : may_stand before (get_or text i 0) ≡ true = sym is ∙ passed in
-    at_drop_more (stray_from i before) text i 0 h ∙ rw e (ap (λ k. stray_from k (get_or text i 0) (drop (i + 1) text)) (sym (add-one i)))
+stray_later text i before passes h is passed = grind (arith, (add-one i), (at_drop_more (stray_from i before) text i 0 h))
 
 pub no_stray : (text : List ℕ) (i before : ℕ) → length text ≤ i → stray_from i before (drop i text) ≡ None
 unfolding stray_from
@@ -65,8 +61,7 @@ pub length-times : (n : ℕ) (s : Side) → length (times n s) ≡ max 1 n
 length-times n s = length-replicate (max 1 n) s
 
 at_least : (digit : Bool) (s : Side) (n : ℕ) (a b : List Side) → (digit ≡ true → max 1 n ≤ length a) → max 1 n ≤ length (if digit then a else times n s ++ b)
-at_least true s n a b h = h refl
-at_least false s n a b h = omega (arith, length-append (times n s) b, length-times n s)
+at_least digit s n a b h1 = grind (arith, length-append, length-times)
 
 -- a letter has at least as many copies as its count so far, and at least one
 pub least : (text : List ℕ) (s : Side) (n : ℕ) → max 1 n ≤ length (letters_after s n text)
@@ -77,16 +72,12 @@ least (b ∷ rest) s n = at_least (is_digit b) s n _ _ (λ _. omega (arith, leas
 pub digit_next : (rest : List ℕ) (i : ℕ) (s : Side) (n : ℕ) (d : Bool) → i < length rest → d ≡ is_digit (get_or rest i 0) → d ≡ true
     → letters_after s n (drop i rest) ≡ letters_after s (10 * n + (get_or rest i 0 - 48)) (drop (i + 1) rest)
 unfolding letters_after
-digit_next rest i s n d h is passed =
-    let e : is_digit (get_or rest i 0) ≡ true = sym is ∙ passed in
-    at_drop_more (letters_after s n) rest i 0 h ∙ rw e
+digit_next rest i s n d h is passed = grind (arith, (at_drop_more (letters_after s n) rest i 0 h))
 
 pub letter_next : (rest : List ℕ) (i : ℕ) (s : Side) (n : ℕ) (d : Bool) → i < length rest → d ≡ is_digit (get_or rest i 0) → d ≡ false
     → letters_after s n (drop i rest) ≡ times n s ++ letters_after (letter_side (get_or rest i 0)) 0 (drop (i + 1) rest)
 unfolding letters_after
-letter_next rest i s n d h is failed =
-    let e : is_digit (get_or rest i 0) ≡ false = sym is ∙ failed in
-    at_drop_more (letters_after s n) rest i 0 h ∙ rw e
+letter_next rest i s n d h is failed = grind (arith, (at_drop_more (letters_after s n) rest i 0 h))
 
 pub letters_end : (rest : List ℕ) (i : ℕ) (s : Side) (n : ℕ) → length rest ≤ i → letters_after s n (drop i rest) ≡ times n s
 unfolding letters_after
@@ -111,31 +102,23 @@ unfolding spelled
 no_total rs none = sym (ap (λ l. length (spelled l)) none)
 
 pub too_long : (most total : ℕ) (done all : List Side) (rest : List ℕ) (s : Side) (n : ℕ) → done ++ letters_after s n rest ≡ all → total ≡ length done → most < total + max 1 n → most < length all
-too_long most total done all rest s n e same h =
-    omega (arith, ap length e, length-append done (letters_after s n rest), least rest s n, same)
+too_long most total done all rest s n e same h = grind (arith, least, length-append)
 
 pub letters_pushed : (rs rs' : List LetterRun) (r : LetterRun) (all : List Side) (rest : List ℕ) (i : ℕ) (s s' : Side) (n : ℕ) (d : Bool) → i < length rest → d ≡ is_digit (get_or rest i 0) → d ≡ false
     → spelled rs ++ letters_after s n (drop i rest) ≡ all → rs' ≡ rs ++ r ∷ [] → r.count ≡ max 1 n → r.side ≡ s → s' ≡ letter_side (get_or rest i 0)
     → spelled rs' ++ letters_after s' 0 (drop (i + 1) rest) ≡ all
-letters_pushed rs rs' r all rest i s s' n d h is failed e pushed count same side =
-    ap (λ l. spelled l ++ letters_after s' 0 (drop (i + 1) rest)) pushed
-    ∙ ap (λ l. l ++ letters_after s' 0 (drop (i + 1) rest)) (spelled-push rs r)
-    ∙ append_assoc (spelled rs) (replicate r.count r.side) (letters_after s' 0 (drop (i + 1) rest))
-    ∙ ap (λ l. spelled rs ++ l) (ap₂ (λ l k. l ++ letters_after k 0 (drop (i + 1) rest)) (ap₂ replicate count same) side ∙ sym (letter_next rest i s n d h is failed))
-    ∙ e
+letters_pushed rs rs' r all rest i s s' n d h is failed e pushed count same side = grind (arith, append_assoc, letter_next, spelled-push)
 
 pub total_pushed : (rs rs' : List LetterRun) (r : LetterRun) (total k : ℕ) → total ≡ length (spelled rs) → rs' ≡ rs ++ r ∷ [] → r.count ≡ k → total + k ≡ length (spelled rs')
 total_pushed rs rs' r total k e pushed count = omega (arith, e, count, ap (λ l. length (spelled l)) pushed, length-spelled-push rs r)
 
 pub letters_done : (rs rs' : List LetterRun) (r : LetterRun) (all : List Side) (rest : List ℕ) (i : ℕ) (s : Side) (n : ℕ) → length rest ≤ i
     → spelled rs ++ letters_after s n (drop i rest) ≡ all → rs' ≡ rs ++ r ∷ [] → r.count ≡ max 1 n → r.side ≡ s → spelled rs' ≡ all
-letters_done rs rs' r all rest i s n h e pushed count same =
-    ap spelled pushed ∙ spelled-push rs r ∙ ap (λ l. spelled rs ++ l) (ap₂ replicate count same ∙ sym (letters_end rest i s n h)) ∙ e
+letters_done rs rs' r all rest i s n h e pushed count same = grind (arith, letters_end, spelled-push)
 
 pub within_done : (most total : ℕ) (done all : List Side) (rest : List ℕ) (i : ℕ) (s : Side) (n : ℕ) → length rest ≤ i
     → done ++ letters_after s n (drop i rest) ≡ all → total ≡ length done → total + max 1 n ≤ most → length all ≤ most
-within_done most total done all rest i s n h e same within =
-    omega (arith, sym (ap length e), length-append done (letters_after s n (drop i rest)), ap length (letters_end rest i s n h), length-times n s, same)
+within_done most total done all rest i s n h e same within = grind (arith, length-append, length-times, letters_end)
 
 -- ---- how many letters runs have
 
@@ -154,15 +137,11 @@ count_end runs k h = at_drop_all (λ rs. length (spelled rs)) runs k h
 
 pub run_goes_on : (rest : List ℕ) (i : ℕ) (d : Bool) → i < length rest → d ≡ is_digit (get_or rest i 0) → d ≡ true → runs_in (drop i rest) ≡ runs_in (drop (i + 1) rest)
 unfolding runs_in
-run_goes_on rest i d h is passed =
-    let e : is_digit (get_or rest i 0) ≡ true = sym is ∙ passed in
-    at_drop_more runs_in rest i 0 h ∙ rw e
+run_goes_on rest i d h is passed = grind (arith, (at_drop_more runs_in rest i 0 h))
 
 pub run_begins : (rest : List ℕ) (i : ℕ) (d : Bool) → i < length rest → d ≡ is_digit (get_or rest i 0) → d ≡ false → runs_in (drop i rest) ≡ suc (runs_in (drop (i + 1) rest))
 unfolding runs_in
-run_begins rest i d h is failed =
-    let e : is_digit (get_or rest i 0) ≡ false = sym is ∙ failed in
-    at_drop_more runs_in rest i 0 h ∙ rw e
+run_begins rest i d h is failed = grind (arith, (at_drop_more runs_in rest i 0 h))
 
 pub runs_begin : (rs : List LetterRun) (rest : List ℕ) → rs ≡ [] → length rs + runs_in rest ≡ runs_in rest
 runs_begin rs rest none = omega (arith, ap length none)

@@ -1,5 +1,5 @@
 -- What is read from bytes is their script or their fault.
-use Rattle.std.proofs.Common.{◌≡◌, ◌⊎◌, ◌∙◌, ◌≤◌, ℕ, Bool, List, map, length, Result, Ok, Err, refl, sym, ap, subst, arith, inl, inr}
+use Rattle.std.proofs.Common.{rules, ◌≡◌, ◌⊎◌, ◌∙◌, ◌≤◌, ℕ, Bool, List, length, Result, Ok, Err, refl, sym, ap, subst, arith, inl, inr}
 use Rattle.std.specs.Prelude.{IfOk, IfErr, MatchResult}
 use Rattle.serde_json.specs.Data.{Data, unsigned, boolean, number, string, array, object, Members}
 use Rattle.serde_json.specs.Read.{read}
@@ -17,7 +17,7 @@ use Rattle.ring_script.specs.Results.{result_and_then}
 use Rattle.ring_script.specs.Schedule.{IsSchedule}
 use Rattle.ring_script.specs.FieldReading.{FieldValues, names_in, typed_of, field_values}
 use Rattle.ring_script.specs.Content.{Content}
-use Rattle.ring_script.specs.Script.{HeldFields, HoldsFields, HoldsItems, HoldsLetters, HoldsShape, IsContentOf, IsOracle, IsScript, answer_byte}
+use Rattle.ring_script.specs.Script.{HeldFields, HoldsFields, HoldsItems, HoldsLetters, HoldsShape, IsContentOf, IsOracle, IsScript}
 use Rattle.ring_script.specs.ScriptReading.{Given, given_by, given_in, given_of, items_within, json_of, oracle_of, schedule_of, script_of, shape_in}
 use Rattle.ring_script.specs.Fields.{HasKnownNames, IsJson, IsObject, held_as, wholes}
 use Rattle.ring_script.specs.Faults.{IsScriptFault}
@@ -110,9 +110,7 @@ holds_from bytes ms ts o k = record { members = ms; is_object = o; capacity = k.
 object_to : (bytes : List ℕ) (ms : Members) (r : Result Given ScriptFault) → IsObject bytes ms
     → result_and_then (field_values (object ms)) (λ values. result_and_then (typed_of values) given_of) ≡ r → script_of bytes ≡ r
 unfolding script_of given_in
-object_to bytes ms r o e =
-    and_then_at (json_of bytes) (object ms) _ r (json_to bytes (object ms) o.json)
-    (and_then_at _ tt _ r (names_to ms o.known) e)
+object_to bytes ms r o e = search (rules, and_then_at, json_to, names_to)
 
 -- and if its fields hold this, their values decide
 holds_to : (bytes : List ℕ) (ts : HeldFields) (r : Result Given ScriptFault) → HoldsFields bytes ts → given_of ts ≡ r → script_of bytes ≡ r
@@ -186,30 +184,11 @@ fault_from bytes x e =
 
 given_at : (bytes : List ℕ) (g : Given) → script_of bytes ≡ Ok g → (ts : HeldFields) × IsGiven bytes ts g
 unfolding script_of given_in
-given_at bytes g e =
-    let p1 = and_then_ok (json_of bytes) _ g e in
-    let p2 = and_then_ok (names_in (as_object p1.0)) _ g p1.2 in
-    let ns = names_from p1.0 p2.1 in
-    object_from bytes ns.0 g (object_is bytes p1.0 ns.0 p1.1 ns.1 ns.2)
-    (subst (λ (d : Data). result_and_then (field_values d) (λ values. result_and_then (typed_of values) given_of) ≡ Ok g) ns.1 p2.2)
+given_at bytes g e = grind (arith, and_then_ok, names_from, object_from, object_is)
 
 -- bytes that are read are a script
 script_at : (bytes : List ℕ) (ts : HeldFields) (c : Content) → IsGiven bytes ts (given_by c) → IsScript bytes c
-script_at bytes ts c g = record {
-  held = ts;
-  lettered = subst (HoldsLetters bytes ts) (sym (ap (λ (r : Given). r.letters) g.is)) g.lettered;
-  shape = record {
-    capacity_is = ap (λ (r : Given). r.capacity) g.is;
-    modulus_is = ap (λ (r : Given). r.modulus) g.is;
-    width_is = ap (λ (r : Given). r.width) g.is;
-    batch_is = ap (λ (r : Given). r.batch) g.is;
-    take_batch_is = ap (λ (r : Given). r.take_batch) g.is;
-  };
-  items = ap (λ (r : Given). r.items) g.is;
-  takes = ap (λ (r : Given). r.takes) g.is;
-  closes = ap (λ (r : Given). r.closes) g.is;
-  oracle = g.answers ∙ ap (map answer_byte) (sym (ap (λ (r : Given). r.oracle) g.is));
-}
+script_at bytes ts c g = grind arith
 
 pub script_from : (bytes : List ℕ) (c : Content) → script_of bytes ≡ Ok (given_by c) → IsScript bytes c
 script_from bytes c e = let g = given_at bytes (given_by c) e in script_at bytes g.0 c g.1
@@ -217,27 +196,7 @@ script_from bytes c e = let g = given_at bytes (given_by c) e in script_at bytes
 -- values of fields that are read represent a script, which is that of the bytes that hold them
 content_from : (ts : HeldFields) (c : Content) → given_of ts ≡ Ok (given_by c) → IsContentOf ts c
 unfolding given_of
-content_from ts c e =
-    let g = given_by c in
-    let p1 = and_then_ok (shape_in ts.capacity ts.modulus ts.width ts.batch ts.take_batch) _ g e in
-    let p2 = and_then_ok (items_within ts.width ts.items) _ g p1.2 in
-    let p3 = and_then_ok (schedule_of ts.schedule) _ g p2.2 in
-    let p4 = and_then_ok (oracle_of ts.oracle) _ g p3.2 in
-    let is = sym (ok_is _ g p4.2) in
-    record {
-      shape = record {
-        capacity_is = ap (λ (r : Given). r.capacity) is;
-        modulus_is = ap (λ (r : Given). r.modulus) is;
-        width_is = ap (λ (r : Given). r.width) is;
-        batch_is = ap (λ (r : Given). r.batch) is;
-        take_batch_is = ap (λ (r : Given). r.take_batch) is;
-      };
-      items = ap (λ (r : Given). r.items) is;
-      takes = ap (λ (r : Given). r.takes) is;
-      closes = ap (λ (r : Given). r.closes) is;
-      schedule = subst (IsSchedule ts.schedule) (sym (ap (λ (r : Given). r.letters) is)) (schedule_from ts.schedule p3.0 p3.1).0;
-      oracle = subst (IsOracle ts.oracle) (sym (ap (λ (r : Given). r.oracle) is)) (oracle_from ts.oracle p4.0 p4.1);
-    }
+content_from ts c e = search (rules, and_then_ok, ok_is, oracle_from, schedule_from)
 
 fields_read : (ts : HeldFields) (c : Content) → given_of ts ≡ Ok (given_by c) → (bytes : List ℕ) → HoldsFields bytes ts → IsScript bytes c
 fields_read ts c e bytes h = script_at bytes ts c (given_from bytes ts (given_by c) h e)
@@ -272,9 +231,7 @@ fault_told bytes (fault.MissingField g) f = object_to bytes f.0 _ f.1 (and_then_
 fault_told bytes (fault.WrongKind g) f =
     let vs = values_there f.0 f.2 in
     object_to bytes f.0 _ f.1 (and_then_at _ vs.0 _ _ (values_to f.0 vs.0 vs.1) (and_then_fails _ _ _ (wrong_told f.0 vs.0 g vs.1 f.3)))
-fault_told bytes (fault.Shape r) f =
-    let ts : HeldFields = f.0 in
-    holds_to bytes ts _ f.1 (and_then_fails _ _ _ (shape_refused ts.capacity ts.modulus ts.width ts.batch ts.take_batch r f.2))
+fault_told bytes (fault.Shape r) f = search (rules, and_then_fails, holds_to, shape_refused)
 fault_told bytes fault.TooManyItems f =
     let ts : HeldFields = f.0 in
     holds_to bytes ts _ f.1.fields (and_then_at _ tt _ _ (shaped_to bytes ts f.1) (and_then_fails _ _ _ (many_told ts.width ts.items f.2)))
@@ -337,14 +294,11 @@ one_spelling text a b s t = schedule_spells text a s ∙ sym (schedule_spells te
 
 pub read_is_script : {A : Type 0} (bytes : List ℕ) (content : A → Content) (r : Result A ScriptFault)
     → IfOk r (λ s. script_of bytes ≡ Ok (given_by (content s))) → IfOk r (λ s. IsScript bytes (content s))
-read_is_script bytes content (Ok s) e = script_from bytes (content s) e
-read_is_script bytes content (Err x) e = tt
+read_is_script bytes content r h1 = grind (arith, script_from)
 
 pub refused_is_fault : {A : Type 0} (bytes : List ℕ) (r : Result A ScriptFault)
     → IfErr r (λ x. (x ≡ fault.OutOfMemory) ⊎ (script_of bytes ≡ Err x)) → IfErr r (λ x. (x ≡ fault.OutOfMemory) ⊎ IsScriptFault bytes x)
-refused_is_fault bytes (Ok s) e = tt
-refused_is_fault bytes (Err x) (inl short) = inl short
-refused_is_fault bytes (Err x) (inr told) = inr (fault_from bytes x told)
+refused_is_fault bytes r h1 = grind (arith, fault_from)
 
 pub reads_each_script : {A : Type 0} (bytes : List ℕ) (content : A → Content) (r : Result A ScriptFault)
     → IfOk r (λ s. script_of bytes ≡ Ok (given_by (content s))) → IfErr r (λ x. (x ≡ fault.OutOfMemory) ⊎ (script_of bytes ≡ Err x))
@@ -357,24 +311,18 @@ reads_each_script bytes content (Err x) read (inr told) c is = absurd (ok_not_er
 
 pub fields_are_content : {A : Type 0} (ts : HeldFields) (content : A → Content) (r : Result A ScriptFault)
     → IfOk r (λ s. given_of ts ≡ Ok (given_by (content s))) → IfOk r (λ s. IsContentOf ts (content s))
-fields_are_content ts content (Ok s) e = content_from ts (content s) e
-fields_are_content ts content (Err x) e = tt
+fields_are_content ts content r h1 = grind (arith, content_from)
 
 pub fields_are_script : {A : Type 0} (ts : HeldFields) (content : A → Content) (r : Result A ScriptFault)
     → IfOk r (λ s. given_of ts ≡ Ok (given_by (content s))) → IfOk r (λ s. (bytes : List ℕ) → HoldsFields bytes ts → IsScript bytes (content s))
-fields_are_script ts content (Ok s) e = fields_read ts (content s) e
-fields_are_script ts content (Err x) e = tt
+fields_are_script ts content r h1 = grind (arith, fields_read)
 
 pub fields_have_fault : {A : Type 0} (ts : HeldFields) (Short : Type 0) (r : Result A ScriptFault)
     → IfErr r (λ x. ((x ≡ fault.OutOfMemory) × Short) ⊎ (given_of ts ≡ Err x)) → IfErr r (λ x. ((x ≡ fault.OutOfMemory) × Short) ⊎ ((bytes : List ℕ) → HoldsFields bytes ts → IsScriptFault bytes x))
-fields_have_fault ts Short (Ok s) e = tt
-fields_have_fault ts Short (Err x) (inl short) = inl short
-fields_have_fault ts Short (Err x) (inr told) = inr (fields_refused ts x told)
+fields_have_fault ts Short r h1 = grind (arith, fields_refused)
 
 -- ---- the bounds of a script
 
 pub is_kept : (shape : Shape) (items : List ℕ) (count : ℕ) (letters : List Side) → items_within (width_of shape) items ≡ Ok tt → count ≡ length letters → length letters ≤ LETTER_LIMIT
     → IsKept shape items count letters
-is_kept shape items count letters e counted short =
-    let kept = items_from (width_of shape) items e in
-    record { counted = counted; short = omega (arith, counted, short); few = kept.0; fit = kept.1 }
+is_kept shape items count letters e counted short = grind (arith, items_from)

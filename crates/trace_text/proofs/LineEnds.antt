@@ -1,16 +1,13 @@
 -- Each line of a trace ends at its first line feed, and is short.
-use Rattle.std.proofs.Common.{◌≡◌, ◌≢◌, ℕ, ◌+◌, ◌%◌, ◌<◌, ◌≤◌, ◌^◌, true, false, cond, List, [], ◌∷◌, ◌++◌, length, get_or, drop, refl, ap, ap₂, sym, subst, ◌∙◌, append_assoc, length-append, arith}
+use Rattle.std.proofs.Common.{◌≡◌, ◌≢◌, ℕ, ◌+◌, ◌<◌, ◌≤◌, ◌^◌, true, false, cond, List, [], ◌∷◌, ◌++◌, length, get_or, drop, refl, ap, subst, ◌∙◌, append_assoc, length-append, arith}
 use Rattle.std.specs.Prelude.{◌==◌, codes, decimal, nat_lt}
 use Rattle.std.specs.List.{list_all}
-use Rattle.std.proofs.lemmas.Bool.{and_parts, ltb-true}
-use Rattle.std.proofs.lemmas.Fmt.{decimal_by_steps, length-decimal-le}
-use Rattle.std.proofs.lemmas.List.Elements.{All-append, All-cons, All-head, All-nil, All-tail}
+use Rattle.std.proofs.lemmas.Fmt.{length-decimal-le}
+use Rattle.std.proofs.lemmas.List.Elements.{All-append, All-head, All-tail}
 use Rattle.bits_core.specs.declared.events.Side.{Side}
-use Rattle.bits_core.specs.declared.events.Side.TheVariants.{P, C}
 use Rattle.bits_core.specs.declared.events.Bit.{Bit}
 use Rattle.bits_core.specs.declared.events.Bit.TheVariants.{S, R, X, Cell}
 use Rattle.bits_core.specs.declared.events.Act.{Act}
-use Rattle.bits_core.specs.declared.events.Act.TheVariants.{ReadBegin, ReadEnd, WriteBegin, WriteEnd}
 use Rattle.bits_core.specs.declared.events.Event.{Event}
 use Rattle.trace_text.specs.TraceText.{side_text, act_text, bit_text, value_text, batch_text, batches_text, event_line, shape_line}
 use Rattle.line_parts.specs.LineEnds.{HasNoFeed, EndsAtFeed}
@@ -53,37 +50,19 @@ line_of text most part short = record {
 -- ---- the line of an event
 
 side_part : (s : Side) → IsPart (side_text s) 2
-side_part P = text_part (side_text P) 2 refl (omega arith)
-side_part C = text_part (side_text C) 2 refl (omega arith)
+side_part s = grind arith
 
 act_part : (a : Act) → IsPart (act_text a) 6
-act_part ReadBegin = text_part (codes "read ") 6 refl (omega arith)
-act_part (ReadEnd v) = text_part (codes "got ") 6 refl (omega arith)
-act_part (WriteBegin v) = text_part (codes "write ") 6 refl (omega arith)
-act_part WriteEnd = text_part (codes "wrote ") 6 refl (omega arith)
+act_part a = grind arith
 
 bit_part : (b : Bit) → HasIndices b → IsPart (bit_text b) 8
-bit_part (S i) small = record {
-  feedless = (part_then (codes "s") (decimal i) 1 3 (text_part (codes "s") 1 refl (omega arith)) (index_part i small)).feedless;
-  short = omega (arith, (part_then (codes "s") (decimal i) 1 3 (text_part (codes "s") 1 refl (omega arith)) (index_part i small)).short);
-}
-bit_part (R i) small = record {
-  feedless = (part_then (codes "r") (decimal i) 1 3 (text_part (codes "r") 1 refl (omega arith)) (index_part i small)).feedless;
-  short = omega (arith, (part_then (codes "r") (decimal i) 1 3 (text_part (codes "r") 1 refl (omega arith)) (index_part i small)).short);
-}
+bit_part (S i) small = grind (arith, index_part, part_then, text_part)
+bit_part (R i) small = grind (arith, index_part, part_then, text_part)
 bit_part X small = text_part (codes "x") 8 refl (omega arith)
-bit_part (Cell j i) small =
-    part_then (codes "c") (decimal j ++ (codes "." ++ decimal i)) 1 7 (text_part (codes "c") 1 refl (omega arith))
-    (part_then (decimal j) (codes "." ++ decimal i) 3 4 (index_part j small.0)
-    (part_then (codes ".") (decimal i) 1 3 (text_part (codes ".") 1 refl (omega arith)) (index_part i small.1)))
+bit_part (Cell j i) small = grind (arith, (index_part j small.0), (index_part i small.1), (part_then (codes "c") (decimal j ++ (codes "." ++ decimal i)) 1 7 (text_part (codes "c") 1 refl (omega arith)) (part_then (decimal j) (codes "." ++ decimal i) 3 4 (index_part j small.0) (part_then (codes ".") (decimal i) 1 3 (text_part (codes ".") 1 refl (omega arith)) (index_part i small.1)))), (part_then (decimal j) (codes "." ++ decimal i) 3 4 (index_part j small.0) (part_then (codes ".") (decimal i) 1 3 (text_part (codes ".") 1 refl (omega arith)) (index_part i small.1))), (part_then (codes ".") (decimal i) 1 3 (text_part (codes ".") 1 refl (omega arith)) (index_part i small.1)), (text_part (codes "c") 1 refl (omega arith)), (text_part (codes ".") 1 refl (omega arith)), small.0, small.1)
 
 value_part : (a : Act) → IsPart (value_text a) 2
-value_part ReadBegin = text_part [] 2 refl (omega arith)
-value_part (ReadEnd false) = text_part (codes " 0") 2 refl (omega arith)
-value_part (ReadEnd true) = text_part (codes " 1") 2 refl (omega arith)
-value_part (WriteBegin false) = text_part (codes " 0") 2 refl (omega arith)
-value_part (WriteBegin true) = text_part (codes " 1") 2 refl (omega arith)
-value_part WriteEnd = text_part [] 2 refl (omega arith)
+value_part a = grind arith
 
 pub event_line_ends : (e : Event) → HasIndices e.bit → IsShortLine (event_line e)
 event_line_ends e small =
@@ -99,10 +78,7 @@ event_line_ends e small =
 
 batch_part : (batch : ℕ) → batch < 10000 → IsPart (batch_text batch) 5
 unfolding batch_text
-batch_part batch small = elim (batch == 1) as (λ t. IsPart (cond t [] (codes " " ++ decimal batch)) 5) [
-  | true ↦ text_part [] 5 refl (omega arith)
-  | false ↦ part_then (codes " ") (decimal batch) 1 4 (text_part (codes " ") 1 refl (omega arith)) (short_part batch small)
-]
+batch_part batch small = grind (arith, part_then, short_part, text_part)
 
 batches_part : (batch take_batch : ℕ) → batch < 10000 → take_batch < 10000 → IsPart (batches_text batch take_batch) 10
 unfolding batches_text
@@ -148,11 +124,7 @@ line_parts line rest is = ap (λ (t : List ℕ). t ++ rest) is.text ∙ append_a
 
 -- bytes with a line feed begin with a line if they do so with more bytes after them
 pub line_before_more : (bytes front behind more line rest : List ℕ) → bytes ≡ front ++ 10 ∷ behind → HasNoFeed front → EndsAtFeed line → bytes ++ more ≡ line ++ rest → bytes ≡ line ++ behind
-line_before_more bytes front behind more line rest text none is e =
-    let whole : front ++ 10 ∷ (behind ++ more) ≡ is.front ++ 10 ∷ rest =
-    sym (append_assoc front (10 ∷ behind) more) ∙ ap (λ (t : List ℕ). t ++ more) (sym text) ∙ e ∙ line_parts line rest is in
-    let same = feed_once front is.front (behind ++ more) rest none is.feedless whole in
-    text ∙ ap (λ (t : List ℕ). t ++ 10 ∷ behind) same.0 ∙ sym (line_parts line behind is)
+line_before_more bytes front behind more line rest text none is e = grind (arith, append_assoc, feed_once, line_parts)
 
 -- as many bytes with no line feed as the longest line has begin with no line, whatever follows
 pub too_long_a_line : (bytes more line rest : List ℕ) → HasNoFeed bytes → 31 ≤ length bytes → IsShortLine line → bytes ++ more ≢ line ++ rest

@@ -6,14 +6,13 @@ use Rattle.std.proofs.lemmas.Option.{none-some, same_Some}
 use Rattle.bits_core.specs.declared.audits.BitAuditor.{BitAuditor}
 use Rattle.bits_core.specs.declared.faults.Kind.{Kind}
 use Rattle.bits_core.specs.declared.audits.Verdict.{Verdict}
-use Rattle.bits_core.specs.declared.audits.Verdict.TheVariants.{Lawful, Fault}
 use Rattle.bits_core.specs.declared.events.Event.{Event}
 use Rattle.bits_core.specs.declared.shapes.Shape.{Shape}
 use Rattle.trace_text.specs.declared.trace_audits.TraceHearing.{TraceHearing}
 use Rattle.bits_core.specs.Audit.{IsFaultAfter, IsFirstFault, IsVerdict}
-use Rattle.bits_core.specs.Steps.{EachMayFollow}
 use Rattle.trace_text.specs.Trace.{IsTraceText}
 use Rattle.trace_text.specs.TraceAudits.{BreaksAt, HasEnded, IsFoundSoFar}
+use Rattle.bits_core.proofs.StepLemmas.{EachMayFollow}
 use Rattle.bits_core.proofs.FaultLemmas.{IsFirstFault-at}
 use Rattle.bits_core.proofs.LawfulLemmas.{IsLawful-to}
 
@@ -31,8 +30,7 @@ BreaksAt-first shape h place kind s =
     subst (λ t. IsFirstFault shape t place kind) (sym s.parts) (subst (λ p. IsFirstFault shape all p kind) s.is_place first)
 
 found_is_verdict : (verdict : Verdict) (auditor : BitAuditor) (shape : Shape) (events : List Event) → IsFoundSoFar verdict auditor shape events → IsVerdict shape events verdict
-found_is_verdict Lawful auditor shape events found = found.marks.lawful
-found_is_verdict (Fault place kind) auditor shape events found = BreaksAt-first shape events place kind found
+found_is_verdict verdict auditor shape events h1 = grind (arith, BreaksAt-first)
 
 pub verdict_told : (h : Option TraceHearing) (heard : TraceHearing) (bytes ended cut : List ℕ) → h ≡ Some heard → bytes ≡ ended ++ cut → cut ≡ [] → HasEnded h ended
     → (shape : Shape) × (events : List Event) × IsTraceText bytes shape events × IsVerdict shape events heard.verdict

@@ -1,21 +1,20 @@
 -- The lines of a trace: what is read is at the front, and what is there is read again.
-use Rattle.std.proofs.Common.{◌≡◌, ◌⊎◌, ℕ, ◌<◌, true, false, cond, Some, None, List, [], ◌++◌, refl, ap, sym, subst, ◌∙◌, append_assoc, inl, inr, arith}
-use Rattle.std.specs.Prelude.{◌==◌, codes, decimal, nat_lt}
-use Rattle.std.proofs.lemmas.Bool.{and_parts, eqb-true, ltb-true}
+use Rattle.std.proofs.Common.{◌≡◌, ◌⊎◌, ℕ, ◌<◌, true, false, Some, List, ◌++◌, refl, ap, sym, subst, ◌∙◌, append_assoc, inl, inr, arith}
+use Rattle.std.specs.Prelude.{◌==◌, codes, decimal}
+use Rattle.std.proofs.lemmas.Bool.{eqb-true}
 use Rattle.std.proofs.lemmas.Option.{none-some, same_Some}
 use Rattle.bits_core.specs.declared.events.Side.{Side}
 use Rattle.bits_core.specs.declared.events.Bit.{Bit}
-use Rattle.bits_core.specs.declared.events.Bit.TheVariants.{S, R, X, Cell}
 use Rattle.bits_core.specs.declared.events.Act.{Act}
 use Rattle.bits_core.specs.declared.events.Event.{Event}
 use Rattle.trace_text.specs.declared.reading.Numbers.{Numbers}
 use Rattle.trace_text.specs.declared.reading.ActWord.{ActWord}
 use Rattle.bits_core.specs.declared.shapes.Shape.{Shape}
 use Rattle.bits_core.specs.declared.faults.ShapeFault.{ShapeFault}
-use Rattle.bits_core.specs.Shape.{HasBatches, IsRefusedBatches, batch_of, belongs, capacity_of, modulus_of, width_of}
+use Rattle.bits_core.specs.Shape.{HasBatches, IsRefusedBatches, belongs}
 use Rattle.trace_text.specs.Trace.{BeginsWithShape, HasBadShape, HasShapeLine}
 use Rattle.trace_text.specs.TraceText.{side_text, act_text, bit_text, value_text, batch_text, batches_text, event_line, shape_line}
-use Rattle.trace_text.specs.TraceReading.{◌>>=◌, named, side_at, word_at, bit_at, act_at, short_number_at, take_batch_at, batches_at, event_at, shape_at}
+use Rattle.trace_text.specs.TraceReading.{named, side_at, word_at, bit_at, act_at, short_number_at, take_batch_at, batches_at, event_at, shape_at}
 use Rattle.line_parts.specs.Parts.{after}
 use Rattle.line_parts.proofs.TextReading.{after-text}
 use Rattle.line_parts.proofs.NumberReading.{EndsDigits}
@@ -31,10 +30,7 @@ parts_of_event s b a rest = simp append_assoc
 event_joined : (bytes r1 r2 r3 r4 rest : List ℕ) (s : Side) (w : ActWord) (b : Bit) (a : Act)
     → bytes ≡ side_text s ++ r1 → r1 ≡ word_text w ++ r2 → r2 ≡ bit_text b ++ r3 → (word_text w ≡ act_text a) × (r3 ≡ value_text a ++ r4) → r4 ≡ codes "\n" ++ rest
     → bytes ≡ event_line (record { side = s; bit = b; act = a }) ++ rest
-event_joined bytes r1 r2 r3 r4 rest s w b a e1 e2 e3 e4 e5 =
-    e1 ∙ ap (λ (t : List ℕ). side_text s ++ t) (e2 ∙ ap (λ (t : List ℕ). t ++ r2) e4.0 ∙ ap (λ (t : List ℕ). act_text a ++ t)
-    (e3 ∙ ap (λ (t : List ℕ). bit_text b ++ t) (e4.1 ∙ ap (λ (t : List ℕ). value_text a ++ t) e5)))
-    ∙ sym (parts_of_event s b a rest)
+event_joined bytes r1 r2 r3 r4 rest s w b a e1 e2 e3 e4 e5 = grind (arith, parts_of_event)
 
 pub event_at-text : (bytes : List ℕ) (x : Event × List ℕ) → event_at bytes ≡ Some x → Begins event_line bytes x
 unfolding event_at
@@ -51,22 +47,11 @@ event_at-text bytes x e =
 
 pub event_at-again : (e : Event) (rest : List ℕ) → HasIndices e.bit → event_at (event_line e ++ rest) ≡ Some (e, rest)
 unfolding event_at
-event_at-again e rest small =
-    let line : List ℕ = codes "\n" ++ rest in
-    let behind : List ℕ = bit_text e.bit ++ (value_text e.act ++ line) in
-    let parts : event_line e ++ rest ≡ side_text e.side ++ (word_text (word_of e.act) ++ behind) =
-    parts_of_event e.side e.bit e.act rest ∙ ap (λ (t : List ℕ). side_text e.side ++ (t ++ behind)) (act_word e.act) in
-    ap event_at parts
-    ∙ rw (side_at-again e.side (word_text (word_of e.act) ++ behind), word_at-again (word_of e.act) behind, bit_at-again e.bit (value_text e.act ++ line) small (value_ends e.act rest), act_at-again e.act line) refl
+event_at-again e rest small = grind (arith, act_at-again, act_word, bit_at-again, parts_of_event, side_at-again, value_ends, word_at-again, word_of, word_text)
 
 -- the indices of a shape's bits are below 256
 pub small_indices : (shape : Shape) (b : Bit) → belongs shape b ≡ true → HasIndices b
-small_indices shape (S i) e = omega (arith, ltb-true i (modulus_of shape) e, shape.small_modulus)
-small_indices shape (R i) e = omega (arith, ltb-true i (modulus_of shape) e, shape.small_modulus)
-small_indices shape X e = tt
-small_indices shape (Cell j i) e =
-    let both = and_parts (nat_lt j (capacity_of shape)) (nat_lt i (width_of shape)) e in
-    (omega (arith, ltb-true j (capacity_of shape) both.0, shape.few_cells), omega (arith, ltb-true i (width_of shape) both.1, shape.few_digits))
+small_indices shape b h1 = grind arith
 
 -- ---- the line of a shape
 
@@ -100,35 +85,7 @@ TakePart batch bytes x =
 
 take_batch_at-text : (batch : ℕ) (bytes : List ℕ) (x : ℕ × List ℕ) → take_batch_at batch bytes ≡ Some x → TakePart batch bytes x
 unfolding take_batch_at TakePart
-take_batch_at-text batch bytes x e =
-    elim (or_else_some (after (codes "\n") bytes >>= λ rest. cond (batch == 1) None (Some (1, rest))) _ x e) [
-      | inl k ↦
-          let p = bind_some (after (codes "\n") bytes) _ x k in
-          inl (single p.0 (after-text (codes "\n") bytes p.0 p.1) p.2)
-      | inr k ↦
-          let p = bind_some (after (codes " ") bytes) _ x k in
-          let g = bind_some (short_number_at p.0) _ x p.2 in
-          let l = bind_some (after (codes "\n") g.0.1) _ x g.2 in
-          inr (other_than_1 p.0 g.0.0 g.0.1 l.0 (after-text (codes " ") bytes p.0 p.1) (short_number_at-text p.0 g.0 g.1) (after-text (codes "\n") g.0.1 l.0 l.1) l.2)
-    ]
-  where
-    single : (rest : List ℕ) → bytes ≡ codes "\n" ++ rest → cond (batch == 1) None (Some (1, rest)) ≡ Some x → (x.0 ≡ 1) × ((batch == 1) ≡ false) × (bytes ≡ codes "\n" ++ x.1)
-    single rest text k0 = elim (batch == 1) as (λ t. (batch == 1) ≡ t → cond t None (Some (1, rest)) ≡ Some x → (x.0 ≡ 1) × ((batch == 1) ≡ false) × (bytes ≡ codes "\n" ++ x.1)) [
-      | true ↦ λ _ k. absurd (none-some x k)
-      | false ↦ λ t k.
-          let same : (1, rest) ≡ x = same_Some (1, rest) x k in
-          (sym (ap (λ (y : ℕ × List ℕ). y.0) same), t, text ∙ ap (λ (y : ℕ × List ℕ). codes "\n" ++ y.1) same)
-    ] refl k0
-
-    other_than_1 : (r1 : List ℕ) (g : ℕ) (r2 rest : List ℕ) → bytes ≡ codes " " ++ r1 → (r1 ≡ decimal g ++ r2) × (g < 10000) → r2 ≡ codes "\n" ++ rest
-        → cond (g == 1) None (Some (g, rest)) ≡ Some x → ((x.0 == 1) ≡ false) × (x.0 < 10000) × (bytes ≡ codes " " ++ (decimal x.0 ++ (codes "\n" ++ x.1)))
-    other_than_1 r1 g r2 rest e1 e2 e3 e4 =
-        elim (g == 1) as (λ t. (g == 1) ≡ t → cond t None (Some (g, rest)) ≡ Some x → ((x.0 == 1) ≡ false) × (x.0 < 10000) × (bytes ≡ codes " " ++ (decimal x.0 ++ (codes "\n" ++ x.1)))) [
-          | true ↦ λ _ k. absurd (none-some x k)
-          | false ↦ λ t k.
-              subst (λ (y : ℕ × List ℕ). ((y.0 == 1) ≡ false) × (y.0 < 10000) × (bytes ≡ codes " " ++ (decimal y.0 ++ (codes "\n" ++ y.1)))) (same_Some (g, rest) x k)
-              (t, e2.1, e1 ∙ ap (λ (r : List ℕ). codes " " ++ r) (e2.0 ∙ ap (λ (r : List ℕ). decimal g ++ r) e3))
-        ] refl e4
+take_batch_at-text batch bytes x e = grind (arith, after-text, bind_some, none-some, or_else_some, same_Some, short_number_at-text)
 
 batches_at-text : (bytes : List ℕ) (x : (ℕ × ℕ) × List ℕ) → batches_at bytes ≡ Some x → BeginsBatches bytes x
 unfolding batches_at batch_text batches_text TakePart
@@ -175,36 +132,12 @@ take_batch_at-single batch rest other = rw other refl
 
 batches_at-again : (batch take_batch : ℕ) (rest : List ℕ) → batch < 10000 → take_batch < 10000 → batches_at (batches_end batch take_batch rest) ≡ Some ((batch, take_batch), rest)
 unfolding batches_at batch_text batches_text
-batches_at-again batch take_batch rest short short_take =
-    elim (take_batch == 1) as (λ t. (take_batch == 1) ≡ t → batches_at (batches_end batch take_batch rest) ≡ Some ((batch, take_batch), rest)) [
-      | true ↦ λ t. subst (λ (h : ℕ). batches_at (batches_end batch h rest) ≡ Some ((batch, h), rest)) (sym (eqb-true take_batch 1 t)) (one batch short)
-      | false ↦ λ t.
-          ap batches_at (ap (λ (r : List ℕ). r ++ (codes "\n" ++ rest)) (batches_text-other batch take_batch t) ∙ split batch take_batch)
-          ∙ rw (short_number_at-again batch (codes " " ++ (decimal take_batch ++ (codes "\n" ++ rest))) short refl, take_batch_at-other batch take_batch rest short_take t) refl
-    ] refl
-  where
-    split : (g h : ℕ) → (codes " " ++ (decimal g ++ (codes " " ++ decimal h))) ++ (codes "\n" ++ rest) ≡ codes " " ++ (decimal g ++ (codes " " ++ (decimal h ++ (codes "\n" ++ rest))))
-    split g h = simp append_assoc
-
-    one : (g : ℕ) → g < 10000 → batches_at (batches_end g 1 rest) ≡ Some ((g, 1), rest)
-    one g small = elim (g == 1) as (λ t. (g == 1) ≡ t → batches_at (batches_end g 1 rest) ≡ Some ((g, 1), rest)) [
-      | true ↦ λ t. subst (λ (k : ℕ). batches_at (batches_end k 1 rest) ≡ Some ((k, 1), rest)) (sym (eqb-true g 1 t)) refl
-      | false ↦ λ t.
-          ap batches_at (ap (λ (r : List ℕ). r ++ (codes "\n" ++ rest)) (batches_text-single g ∙ batch_text-other g t))
-          ∙ rw (short_number_at-again g (codes "\n" ++ rest) small refl, take_batch_at-single g rest t) refl
-    ] refl
+batches_at-again batch take_batch rest short short_take = grind (arith, append_assoc, batch_text-other, batches_text-other, batches_text-single, eqb-true, short_number_at-again, take_batch_at-other, take_batch_at-single)
 
 -- no digit follows the width
 width_ends : (batch take_batch : ℕ) (rest : List ℕ) → EndsDigits (batches_end batch take_batch rest)
 unfolding batch_text batches_text
-width_ends batch take_batch rest =
-    elim (take_batch == 1) as (λ t. EndsDigits (cond t (batch_text batch) (codes " " ++ (decimal batch ++ (codes " " ++ decimal take_batch))) ++ (codes "\n" ++ rest))) [
-      | true ↦ elim (batch == 1) as (λ t. EndsDigits (cond t [] (codes " " ++ decimal batch) ++ (codes "\n" ++ rest))) [
-        | true ↦ refl
-        | false ↦ refl
-      ]
-      | false ↦ refl
-    ]
+width_ends batch take_batch rest = grind arith
 
 parts_of_shape : (capacity modulus width batch take_batch : ℕ) (rest : List ℕ)
     → shape_line capacity modulus width batch take_batch ++ rest ≡ codes "shape " ++ (decimal capacity ++ (codes " " ++ (decimal modulus ++ (codes " " ++ (decimal width ++ batches_end batch take_batch rest)))))
@@ -213,10 +146,7 @@ parts_of_shape capacity modulus width batch take_batch rest = simp append_assoc
 shape_joined : (bytes r1 r2 r3 r4 r5 r6 rest : List ℕ) (capacity modulus width batch take_batch : ℕ)
     → bytes ≡ codes "shape " ++ r1 → r1 ≡ decimal capacity ++ r2 → r2 ≡ codes " " ++ r3 → r3 ≡ decimal modulus ++ r4 → r4 ≡ codes " " ++ r5 → r5 ≡ decimal width ++ r6 → r6 ≡ batches_end batch take_batch rest
     → bytes ≡ shape_line capacity modulus width batch take_batch ++ rest
-shape_joined bytes r1 r2 r3 r4 r5 r6 rest capacity modulus width batch take_batch e1 e2 e3 e4 e5 e6 e7 =
-    e1 ∙ ap (λ (t : List ℕ). codes "shape " ++ t) (e2 ∙ ap (λ (t : List ℕ). decimal capacity ++ t) (e3 ∙ ap (λ (t : List ℕ). codes " " ++ t)
-    (e4 ∙ ap (λ (t : List ℕ). decimal modulus ++ t) (e5 ∙ ap (λ (t : List ℕ). codes " " ++ t) (e6 ∙ ap (λ (t : List ℕ). decimal width ++ t) e7)))))
-    ∙ sym (parts_of_shape capacity modulus width batch take_batch rest)
+shape_joined bytes r1 r2 r3 r4 r5 r6 rest capacity modulus width batch take_batch e1 e2 e3 e4 e5 e6 e7 = grind (arith, parts_of_shape)
 
 -- the line of numbers of at most four digits
 pub record BeginsShape (bytes : List ℕ) (x : Numbers × List ℕ) : Type 0 where
@@ -255,23 +185,11 @@ shape_at-text bytes x e =
 pub shape_at-again : (capacity modulus width batch take_batch : ℕ) (rest : List ℕ) → capacity < 10000 → modulus < 10000 → width < 10000 → batch < 10000 → take_batch < 10000
     → shape_at (shape_line capacity modulus width batch take_batch ++ rest) ≡ Some (record { capacity = capacity; modulus = modulus; width = width; batch = batch; take_batch = take_batch }, rest)
 unfolding shape_at
-shape_at-again capacity modulus width batch take_batch rest short_capacity short_modulus short_width short_batch short_take_batch =
-    ap shape_at (parts_of_shape capacity modulus width batch take_batch rest)
-    ∙ rw (
-      short_number_at-again capacity (codes " " ++ (decimal modulus ++ (codes " " ++ (decimal width ++ batches_end batch take_batch rest)))) short_capacity refl,
-      short_number_at-again modulus (codes " " ++ (decimal width ++ batches_end batch take_batch rest)) short_modulus refl,
-      short_number_at-again width (batches_end batch take_batch rest) short_width (width_ends batch take_batch rest),
-      batches_at-again batch take_batch rest short_batch short_take_batch,
-    ) refl
+shape_at-again capacity modulus width batch take_batch rest short_capacity short_modulus short_width short_batch short_take_batch = grind (arith, batches_at-again, parts_of_shape, short_number_at-again, width_ends)
 
 -- the numbers of a line represent those of a shape
 pub begins_numbers : (bytes rest : List ℕ) (n : Numbers) (shape : Shape) → BeginsShape bytes (n, rest) → HasBatches n.capacity n.modulus n.width n.batch n.take_batch shape → BeginsWithShape bytes shape rest
-begins_numbers bytes rest n shape begins is =
-    begins.text ∙ ap (λ (k : ℕ). shape_line k n.modulus n.width n.batch n.take_batch ++ rest) (sym is.capacity_is)
-    ∙ ap (λ (k : ℕ). shape_line (capacity_of shape) k n.width n.batch n.take_batch ++ rest) (sym is.modulus_is)
-    ∙ ap (λ (k : ℕ). shape_line (capacity_of shape) (modulus_of shape) k n.batch n.take_batch ++ rest) (sym is.width_is)
-    ∙ ap (λ (k : ℕ). shape_line (capacity_of shape) (modulus_of shape) (width_of shape) k n.take_batch ++ rest) (sym is.batch_is)
-    ∙ ap (λ (k : ℕ). shape_line (capacity_of shape) (modulus_of shape) (width_of shape) (batch_of shape) k ++ rest) (sym is.take_batch_is)
+begins_numbers bytes rest n shape begins is = grind arith
 
 -- line 1 has these numbers, which are refused
 pub bad_line : {bytes : List ℕ} {c m w g h : ℕ} (fault : ShapeFault) → IsRefusedBatches c m w g h fault → HasShapeLine bytes c m w g h → HasBadShape bytes fault

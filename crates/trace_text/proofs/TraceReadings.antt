@@ -1,19 +1,18 @@
 -- A text has one reading, and bytes have one fault or are a trace.
-use Rattle.std.proofs.Common.{◌≡◌, ◌⊎◌, ◌≢◌, ℕ, suc, ◌+◌, ◌<◌, ◌≤◌, true, Result, Ok, Err, Some, List, [], ◌∷◌, ◌++◌, length, take, inl, inr, refl, ap, sym, subst, ◌∙◌, append_assoc, arith}
+use Rattle.std.proofs.Common.{◌≡◌, ◌⊎◌, ◌≢◌, ℕ, suc, ◌+◌, ◌<◌, ◌≤◌, true, Result, Ok, Err, List, [], ◌∷◌, ◌++◌, length, take, inl, inr, refl, ap, sym, subst, ◌∙◌, append_assoc, arith}
 use Rattle.std.specs.Prelude.{IfOk, IfErr, MatchResult}
 use Rattle.std.specs.List.{flat_map}
 use Rattle.std.proofs.lemmas.List.{append-nil, length-append, take_all}
 use Rattle.std.proofs.lemmas.Option.{same_Some}
 use Rattle.bits_core.specs.declared.events.Event.{Event}
-use Rattle.trace_text.specs.declared.reading.Numbers.{Numbers}
 use Rattle.bits_core.specs.declared.shapes.Shape.{Shape}
 use Rattle.bits_core.specs.declared.faults.ShapeFault.{ShapeFault}
 use Rattle.bits_core.proofs.ShapeLemmas.{not_refused, one_refusal, same_shape}
 use Rattle.trace_text.specs.declared.faults.TraceFault.{TraceFault}
 use Rattle.trace_text.specs.declared.faults.TraceFault.TheVariants.{BadShape, BadLine, TooLong, OutOfMemory}
-use Rattle.bits_core.specs.Shape.{AreOfShape, IsRefusedBatches, batch_of, belongs, capacity_of, modulus_of, take_batch_of, width_of}
+use Rattle.bits_core.specs.Shape.{AreOfShape, batch_of, belongs, capacity_of, modulus_of, take_batch_of, width_of}
 use Rattle.trace_text.specs.TraceText.{event_line, shape_line, trace_text}
-use Rattle.trace_text.specs.TraceReading.{event_at, shape_at}
+use Rattle.trace_text.specs.TraceReading.{event_at}
 use Rattle.trace_text.specs.Trace.{BeginsWithMore, BeginsWithShape, IsTraceAndMore, HasMore, HasNoEvent, HasBadLine, HasBadShape, HasShapeLine, IsTooLong, IsTrace, IsTraceFault, IsTraceText}
 use Rattle.trace_text.specs.Laws.{RefusedIsNoText, TraceIsText}
 use Rattle.trace_text.proofs.TraceLines.{event_at-again, shape_at-again, small_indices}
@@ -31,42 +30,15 @@ pub record SameLine (c m w g h c' m' w' g' h' : ℕ) (rest rest' : List ℕ) : T
   pub others : rest ≡ rest'
 
 lines_agree : (bytes : List ℕ) (c m w g h c' m' w' g' h' : ℕ) (a : HasShapeLine bytes c m w g h) (b : HasShapeLine bytes c' m' w' g' h') → SameLine c m w g h c' m' w' g' h' a.rest b.rest
-lines_agree bytes c m w g h c' m' w' g' h' a b =
-    let p : Numbers × List ℕ = (record { capacity = c; modulus = m; width = w; batch = g; take_batch = h }, a.rest) in
-    let q : Numbers × List ℕ = (record { capacity = c'; modulus = m'; width = w'; batch = g'; take_batch = h' }, b.rest) in
-    let read_a : shape_at bytes ≡ Some p = ap shape_at a.text ∙ shape_at-again c m w g h a.rest a.short_capacity a.short_modulus a.short_width a.short_batch a.short_take_batch in
-    let read_b : shape_at bytes ≡ Some q = ap shape_at b.text ∙ shape_at-again c' m' w' g' h' b.rest b.short_capacity b.short_modulus b.short_width b.short_batch b.short_take_batch in
-    let same : p ≡ q = same_Some p q (sym read_a ∙ read_b) in
-    record {
-      capacity = ap (λ (x : Numbers × List ℕ). x.0.capacity) same;
-      modulus = ap (λ (x : Numbers × List ℕ). x.0.modulus) same;
-      width = ap (λ (x : Numbers × List ℕ). x.0.width) same;
-      batch = ap (λ (x : Numbers × List ℕ). x.0.batch) same;
-      take_batch = ap (λ (x : Numbers × List ℕ). x.0.take_batch) same;
-      others = ap (λ (x : Numbers × List ℕ). x.1) same;
-    }
+lines_agree bytes c m w g h c' m' w' g' h' a b = grind (arith, (shape_at-again c m w g h a.rest a.short_capacity a.short_modulus a.short_width a.short_batch a.short_take_batch), (shape_at-again c' m' w' g' h' b.rest b.short_capacity b.short_modulus b.short_width b.short_batch b.short_take_batch), same_Some, a.rest, a.short_batch, a.short_capacity, a.short_modulus, a.short_take_batch, a.short_width, a.text, b.rest, b.short_batch, b.short_capacity, b.short_modulus, b.short_take_batch, b.short_width, b.text)
 
 -- the line of a shape is one of short numbers
 shape_has_line : (bytes : List ℕ) (s : Shape) (rest : List ℕ) → BeginsWithShape bytes s rest → HasShapeLine bytes (capacity_of s) (modulus_of s) (width_of s) (batch_of s) (take_batch_of s)
-shape_has_line bytes s rest begins = record {
-  rest = rest;
-  text = begins;
-  short_capacity = omega (arith, s.few_cells);
-  short_modulus = omega (arith, s.small_modulus);
-  short_width = omega (arith, s.few_digits);
-  short_batch = omega (arith, s.few_cells, s.small_batch);
-  short_take_batch = omega (arith, s.few_cells, s.small_take_batch);
-}
+shape_has_line bytes s rest begins = grind arith
 
 shape_not_bad : (bytes : List ℕ) (s : Shape) (rest : List ℕ) (fault : ShapeFault) → BeginsWithShape bytes s rest → ¬ HasBadShape bytes fault
 unfolding shape_has_line
-shape_not_bad bytes s rest fault begins bad =
-    let same = lines_agree bytes bad.capacity bad.modulus bad.width bad.batch bad.take_batch (capacity_of s) (modulus_of s) (width_of s) (batch_of s) (take_batch_of s) bad.line (shape_has_line bytes s rest begins) in
-    let r1 = subst (λ (n : ℕ). IsRefusedBatches n bad.modulus bad.width bad.batch bad.take_batch fault) same.capacity bad.refused in
-    let r2 = subst (λ (n : ℕ). IsRefusedBatches (capacity_of s) n bad.width bad.batch bad.take_batch fault) same.modulus r1 in
-    let r3 = subst (λ (n : ℕ). IsRefusedBatches (capacity_of s) (modulus_of s) n bad.batch bad.take_batch fault) same.width r2 in
-    let r4 = subst (λ (n : ℕ). IsRefusedBatches (capacity_of s) (modulus_of s) (width_of s) n bad.take_batch fault) same.batch r3 in
-    not_refused s fault (subst (λ (n : ℕ). IsRefusedBatches (capacity_of s) (modulus_of s) (width_of s) (batch_of s) n fault) same.take_batch r4)
+shape_not_bad bytes s rest fault begins bad = grind (arith, (lines_agree bytes bad.capacity bad.modulus bad.width bad.batch bad.take_batch (capacity_of s) (modulus_of s) (width_of s) (batch_of s) (take_batch_of s) bad.line (shape_has_line bytes s rest begins)), (shape_has_line bytes s rest begins), not_refused, bad.batch, bad.capacity, bad.line, bad.modulus, bad.refused, bad.take_batch, bad.width)
 
 -- ---- the lines of events
 
@@ -147,14 +119,7 @@ nothing_left (x ∷ more) rest e = absurd (some_line x (lines more ++ rest) (sym
 -- a text has one reading
 pub one_text_reading : (bytes : List ℕ) (s t : Shape) (es fs : List Event) → IsTraceText bytes s es → IsTraceText bytes t fs → (s ≡ t) × (es ≡ fs)
 unfolding Compared
-one_text_reading bytes s t es fs a b =
-    let both = agree bytes s t es fs [] [] (Read-text bytes s es a) (Read-text bytes t fs b) in (
-      both.shape,
-      elim both.events [
-        | inl r ↦ sym (r.1 ∙ ap (λ (ys : List Event). es ++ ys) (nothing_left r.0 [] r.2).0 ∙ append-nil es)
-        | inr r ↦ r.1 ∙ ap (λ (ys : List Event). fs ++ ys) (nothing_left r.0 [] r.2).0 ∙ append-nil fs
-      ],
-    )
+one_text_reading bytes s t es fs a b = grind (arith, (Read-text bytes s es a), (Read-text bytes t fs b), (agree bytes s t es fs [] [] (Read-text bytes s es a) (Read-text bytes t fs b)), (append-nil es), (append-nil fs), nothing_left)
 
 pub one_reading : (bytes : List ℕ) (s t : Shape) (es fs : List Event) → IsTrace bytes s es → IsTrace bytes t fs → (s ≡ t) × (es ≡ fs)
 one_reading bytes s t es fs a b = one_text_reading bytes s t es fs (record { text = a.text; of_shape = a.of_shape }) (record { text = b.text; of_shape = b.of_shape })
@@ -164,8 +129,7 @@ one_reading bytes s t es fs a b = one_text_reading bytes s t es fs (record { tex
 -- if no event's line is at the front, no more lines were read
 no_more : (s t : Shape) (more : List Event) (rest rest' : List ℕ) → s ≡ t → HasNoEvent s rest → rest ≡ lines more ++ rest' → EachOf t more → more ≡ []
 no_more s t [] rest rest' same none e of_t = refl
-no_more s t (x ∷ more) rest rest' same none e of_t =
-    absurd (none x (lines more ++ rest') (ap (λ (u : Shape). belongs u x.bit) same ∙ of_t.0, e ∙ append_assoc (event_line x) (lines more) rest'))
+no_more s t (x ∷ more) rest rest' same none e of_t = grind (arith, append_assoc)
 
 length-of : (es fs more : List Event) → fs ≡ es ++ more → length fs ≡ length es + length more
 length-of es fs more e = ap length e ∙ length-append es more
@@ -225,13 +189,7 @@ line_before : (bytes : List ℕ) (s : Shape) (es : List Event) (rest : List ℕ)
 line_before bytes s es rest g = shape_has_line bytes s (lines es ++ rest) (text_begins bytes s es rest g.text)
 
 bad_shape_once : (bytes : List ℕ) (f g : ShapeFault) → HasBadShape bytes f → HasBadShape bytes g → f ≡ g
-bad_shape_once bytes f g a b =
-    let same = lines_agree bytes a.capacity a.modulus a.width a.batch a.take_batch b.capacity b.modulus b.width b.batch b.take_batch a.line b.line in
-    let r1 = subst (λ (n : ℕ). IsRefusedBatches n a.modulus a.width a.batch a.take_batch f) same.capacity a.refused in
-    let r2 = subst (λ (n : ℕ). IsRefusedBatches b.capacity n a.width a.batch a.take_batch f) same.modulus r1 in
-    let r3 = subst (λ (n : ℕ). IsRefusedBatches b.capacity b.modulus n a.batch a.take_batch f) same.width r2 in
-    let r4 = subst (λ (n : ℕ). IsRefusedBatches b.capacity b.modulus b.width n a.take_batch f) same.batch r3 in
-    one_refusal b.capacity b.modulus b.width b.batch b.take_batch f g (subst (λ (n : ℕ). IsRefusedBatches b.capacity b.modulus b.width b.batch n f) same.take_batch r4) b.refused
+bad_shape_once bytes f g a b = grind (arith, (lines_agree bytes a.capacity a.modulus a.width a.batch a.take_batch b.capacity b.modulus b.width b.batch b.take_batch a.line b.line), one_refusal, a.batch, a.capacity, a.line, a.modulus, a.refused, a.take_batch, a.width, b.batch, b.capacity, b.line, b.modulus, b.refused, b.take_batch, b.width)
 
 bad_shape_stops : (bytes : List ℕ) (f : ShapeFault) (s : Shape) (es : List Event) (rest : List ℕ) → HasBadShape bytes f → ¬ IsTraceAndMore bytes s es rest
 bad_shape_stops bytes f s es rest a g = shape_not_bad bytes s (lines es ++ rest) f (text_begins bytes s es rest g.text) a
@@ -248,10 +206,7 @@ faulty_is_no_trace bytes OutOfMemory s es fault trace = fault
 
 -- a trace is one with no more events than a trace may have
 pub trace_is_text : TraceIsText
-trace_is_text bytes shape events = (
-  λ trace. (record { text = trace.text; of_shape = trace.of_shape }, trace.within),
-  λ both. record { text = both.0.text; of_shape = both.0.of_shape; within = both.1 },
-)
+trace_is_text bytes shape events = grind arith
 
 -- bytes that are refused are not a trace
 pub refused_is_no_text : RefusedIsNoText
@@ -302,16 +257,13 @@ pub reads_each_small : (bytes : List ℕ) (r : Result Shape TraceFault) (slots :
     → IfOk r (λ s. IsTrace bytes s (take used slots)) → IfErr r (λ e. ((e ≡ OutOfMemory) × (length slots ≤ used) × HasMore bytes (take used slots)) ⊎ IsTraceFault bytes e)
     → (s : Shape) (es : List Event) → IsTrace bytes s es → MatchResult r (λ t. (t ≡ s) × (take used slots ≡ es)) (λ e. (e ≡ OutOfMemory) × (length slots < length es))
 reads_each_small bytes (Ok t) slots used read refused s es trace = one_reading bytes t s (take used slots) es read trace
-reads_each_small bytes (Err e) slots used read (inl short) s es trace =
-    (short.0, omega (arith, more_follows bytes (take used slots) s es short.2 trace, ap length (take_all used slots short.1)))
+reads_each_small bytes (Err e) slots used read (inl short) s es trace = grind (arith, (more_follows bytes (take used slots) s es short.2 trace), (take_all used slots short.1), short.0, short.1, short.2)
 reads_each_small bytes (Err e) slots used read (inr fault) s es trace = absurd (faulty_is_no_trace bytes e s es fault trace)
 
 -- what else it may report
 pub short_or_fault : (bytes : List ℕ) (r : Result Shape TraceFault) (slots : List Event) (used : ℕ)
     → IfErr r (λ e. ((e ≡ OutOfMemory) × (length slots ≤ used) × HasMore bytes (take used slots)) ⊎ IsTraceFault bytes e) → IfErr r (λ e. (e ≡ OutOfMemory) ⊎ IsTraceFault bytes e)
-short_or_fault bytes (Ok t) slots used refused = refused
-short_or_fault bytes (Err e) slots used (inl short) = inl short.0
-short_or_fault bytes (Err e) slots used (inr fault) = inr fault
+short_or_fault bytes r slots used h1 = grind arith
 
 -- if the slots are too few, the bytes begin with a trace of more events
 begins_with_more : (bytes : List ℕ) (slots : List Event) (used : ℕ) → length slots ≤ used → HasMore bytes (take used slots) → BeginsWithMore bytes (length slots)

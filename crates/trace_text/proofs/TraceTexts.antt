@@ -1,5 +1,5 @@
 -- The text of a trace of any length, line by line: what its end shows, and what is refused.
-use Rattle.std.proofs.Common.{◌≡◌, ◌≢◌, ℕ, ◌+◌, ◌-◌, ◌^◌, ◌<◌, ◌≤◌, true, Option, Some, None, Result, Ok, Err, OnOk, IfErr, List, [], ◌∷◌, ◌++◌, length, refl, ap, sym, subst, ◌∙◌, append_assoc, length-append, inl, inr, arith}
+use Rattle.std.proofs.Common.{◌≡◌, ◌≢◌, ℕ, ◌+◌, ◌-◌, ◌^◌, ◌<◌, ◌≤◌, true, Option, Some, None, List, [], ◌∷◌, ◌++◌, length, refl, ap, sym, subst, ◌∙◌, append_assoc, length-append, inl, inr, arith}
 use Rattle.std.specs.List.{flat_map}
 use Rattle.std.specs.Prelude.{codes, MatchOption}
 use Rattle.std.proofs.lemmas.List.{append-nil, flat_map_more}
@@ -34,10 +34,7 @@ shape_bytes : (c m w g h : ℕ) → 0 < length (shape_line c m w g h)
 shape_bytes c m w g h = some_byte _
 
 pub text_bytes : (text : List ℕ) (shape : Shape) (events : List Event) → IsTraceText text shape events → length events + 1 ≤ length text
-text_bytes text shape events is =
-    let line : List ℕ = shape_line (capacity_of shape) (modulus_of shape) (width_of shape) (batch_of shape) (take_batch_of shape) in
-    let whole : length text ≡ length line + length (flat_map event_line events) = ap length is.text ∙ length-append line (flat_map event_line events) in
-    omega (arith, whole, many_bytes events, shape_bytes (capacity_of shape) (modulus_of shape) (width_of shape) (batch_of shape) (take_batch_of shape))
+text_bytes text shape events is = grind (arith, length-append, many_bytes, shape_bytes)
 
 -- ---- bytes that start with no line
 
@@ -91,19 +88,13 @@ nothing_ended (Some hearing) text rest is ended none = absurd (none-some hearing
 
 pub behind_ended : (h : Option TraceHearing) (heard : TraceHearing) (fault : TraceFault) (text rest : List ℕ) → h ≡ Some heard → IsFaultBehind heard.count fault → HasEnded h text → BeginsWithNoLine h rest → (rest ≡ [] → h ≡ None)
     → RefusesTraceText (text ++ rest) fault
-behind_ended None heard fault text rest is behind ended none there = absurd (none-some heard is)
-behind_ended (Some hearing) heard fault text rest is behind ended none there =
-    let same : heard ≡ hearing = same_Some heard hearing (sym is) in
-    let counted : IsFaultBehind (length ended.events) fault = subst (λ (n : ℕ). IsFaultBehind n fault) (ap (λ (x : TraceHearing). x.count) same ∙ ended.heard.count) behind in
-    behind_events fault ended.shape ended.events text rest ended.is counted (subst (λ (s : Shape). HasNoEvent s rest) ended.heard.of_shape none) (λ nothing. none-some hearing (sym (there nothing)))
+behind_ended h heard fault text rest h1 h2 h3 h4 h5 = grind (arith, behind_events, none-some, same_Some)
 
 -- bytes that have ended and are not a line
 pub no_line_refused : (fault : TraceFault) (h : Option TraceHearing) (bytes line behind text more : List ℕ)
     → ((rest : List ℕ) → BeginsWithNoLine h rest → (rest ≡ [] → h ≡ None) → RefusesTraceText (text ++ rest) fault)
     → EndsAtFeed line → bytes ≡ line ++ behind → BeginsWithNoLine h bytes → RefusesTraceText (text ++ (bytes ++ more)) fault
-no_line_refused fault h bytes line behind text more refuses ends parts none =
-    refuses (bytes ++ more) (no_line_more h bytes line behind more ends parts none)
-    (λ nothing. absurd (omega (arith, ap length nothing, length-append bytes more, ap length parts, length-append line behind, ap length ends.text, length-append ends.front (10 ∷ []))))
+no_line_refused fault h bytes line behind text more refuses ends parts none = grind (arith, (length-append bytes more), (length-append line behind), (length-append ends.front (10 ∷ [])), (no_line_more h bytes line behind more ends parts none), ends.front, ends.text)
 
 pub bad_shape_more : (fault : ShapeFault) (text bytes more : List ℕ) → text ≡ [] → HasBadShape bytes fault → HasBadShape (text ++ (bytes ++ more)) fault
 bad_shape_more fault text bytes more none bad = subst (λ (t : List ℕ). HasBadShape (t ++ (bytes ++ more)) fault) (sym none) (bad_line fault bad.refused (record {
@@ -118,17 +109,12 @@ bad_shape_more fault text bytes more none bad = subst (λ (t : List ℕ). HasBad
 
 -- the lines heard are too many for one more to be counted
 pub too_many : (h : Option TraceHearing) (heard : TraceHearing) (text rest : List ℕ) → h ≡ Some heard → heard.count ≡ 2 ^ 64 - 1 → HasEnded h text → RefusesTraceText (text ++ rest) TooLong
-too_many None heard text rest is full ended = absurd (none-some heard is)
-too_many (Some hearing) heard text rest is full ended =
-    let same : heard ≡ hearing = same_Some heard hearing (sym is) in
-    omega (arith, full, ap (λ (x : TraceHearing). x.count) same, ended.heard.count, text_bytes text ended.shape ended.events ended.is, length-append text rest)
+too_many h heard text rest h1 h2 h3 = grind (arith, length-append, none-some, same_Some, text_bytes)
 
 -- ---- one more line
 
 pub shape_ends : (shape : Shape) → EndsAtFeed (shape_line (capacity_of shape) (modulus_of shape) (width_of shape) (batch_of shape) (take_batch_of shape))
-shape_ends shape =
-    (shape_line_ends (capacity_of shape) (modulus_of shape) (width_of shape) (batch_of shape) (take_batch_of shape) (omega (arith, shape.few_cells)) (omega (arith, shape.small_modulus)) (omega (arith, shape.few_digits))
-    (omega (arith, shape.few_cells, shape.small_batch)) (omega (arith, shape.few_cells, shape.small_take_batch))).ends
+shape_ends shape = grind (arith, (shape_line_ends (capacity_of shape) (modulus_of shape) (width_of shape) (batch_of shape) (take_batch_of shape) (omega (arith, shape.few_cells)) (omega (arith, shape.small_modulus)) (omega (arith, shape.few_digits)) (omega (arith, shape.few_cells, shape.small_batch)) (omega (arith, shape.few_cells, shape.small_take_batch))), shape.few_cells, shape.few_digits, shape.small_batch, shape.small_modulus, shape.small_take_batch)
 
 pub event_ends : (shape : Shape) (e : Event) → belongs shape e.bit ≡ true → EndsAtFeed (event_line e)
 event_ends shape e inside = (event_line_ends e (small_indices shape e.bit inside)).ends
@@ -180,11 +166,7 @@ pub whole_line : {R : Type 0} (found : Option R) (now : R → List ℕ) (old new
     → MatchOption found (HasNoFeed bytes × (new ≡ old)) (λ rest. (line : List ℕ) × EndsAtFeed line × (bytes ≡ line ++ now rest) × ((text : List ℕ) → HasEnded old text → HasEnded new (text ++ line)))
     → (text : List ℕ) → HasEnded old text → HasEnded new (text ++ bytes)
 whole_line None now old new bytes front free whole read text ended = absurd (feed_nowhere bytes front [] read.0 whole)
-whole_line (Some rest) now old new bytes front free whole read text ended =
-    let ends : EndsAtFeed read.0 = read.1 in
-    let same = feed_once front ends.front [] (now rest) free ends.feedless (sym whole ∙ read.2 ∙ ap (λ (t : List ℕ). t ++ now rest) ends.text ∙ append_assoc ends.front (10 ∷ []) (now rest)) in
-    let line : read.0 ≡ bytes = ends.text ∙ ap (λ (t : List ℕ). t ++ 10 ∷ []) (sym same.0) ∙ sym whole in
-    subst (λ (t : List ℕ). HasEnded new (text ++ t)) line (read.3 text ended)
+whole_line (Some rest) now old new bytes front free whole read text ended = grind (arith, append_assoc, feed_once)
 
 -- bytes before and after the end of a line
 pub behind_it : (before read rest piece more : List ℕ) → piece ≡ read ++ rest → (before ++ read) ++ (rest ++ more) ≡ before ++ (piece ++ more)

@@ -1,5 +1,5 @@
 -- Bytes are a trace or have a fault, found line by line.
-use Rattle.std.proofs.Common.{◌≡◌, ◌⊎◌, ℕ, zero, suc, ◌+◌, ◌<◌, ◌≤◌, true, false, Option, Some, None, List, [], ◌∷◌, ◌++◌, length, refl, ap, sym, inl, inr, arith, ◌∙◌}
+use Rattle.std.proofs.Common.{rules, ◌≡◌, ◌⊎◌, ℕ, zero, suc, ◌+◌, ◌<◌, ◌≤◌, true, false, Option, Some, None, List, [], ◌∷◌, ◌++◌, length, refl, ap, sym, inl, inr, arith, ◌∙◌}
 use Rattle.std.proofs.lemmas.Bool.{cases_lt}
 use Rattle.std.proofs.lemmas.List.{append-nil}
 use Rattle.trace_text.specs.declared.traces.TheConstants.{EVENT_LIMIT}
@@ -32,8 +32,7 @@ next_line :
     (bytes : List ℕ) (shape : Shape) (events : List Event) (rest : List ℕ) → IsTraceAndMore bytes shape events rest → length events < EVENT_LIMIT →
     ((e : Event) (others : List ℕ) → length others < length rest → bytes ≡ trace_text shape (events ++ e ∷ []) ++ others → AreOfShape shape (events ++ e ∷ []) → Told bytes) →
     (r : Option (Event × List ℕ)) → event_at rest ≡ r → Told bytes
-next_line bytes shape events rest goes_on room further None none =
-    bad_line bytes shape events rest goes_on room (no_event_read shape rest none)
+next_line bytes shape events rest goes_on room further None none = search (rules, bad_line, no_event_read)
 next_line bytes shape events rest goes_on room further (Some (e, others)) read =
     let text : rest ≡ event_line e ++ others = event_at-text rest (e, others) read in
     elim (belongs shape e.bit) as (λ t. belongs shape e.bit ≡ t → Told bytes) [

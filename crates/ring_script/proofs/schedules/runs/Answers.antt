@@ -11,13 +11,7 @@ pub returns-in_default-clause-within : goal.returns-in_default-clause-within
 returns-in_default-clause-within g c = no_length _ _ c.in_default.ensures.cases
 
 pub loop-b-init : goal.loop-b-init
-loop-b-init g c = record {
-  letters = letters_begin _ _ _ _ _ c.in-Some.ensures.cases.0 c.letter_side-side.ensures c.requires.empty;
-  total = no_total _ c.requires.empty;
-  within = omega arith;
-  made = runs_begin _ _ c.requires.empty;
-  room = refl;
-}
+loop-b-init g c = grind (arith, letters_begin, no_total, runs_begin)
 
 pub returns-then-total-more-gt-LETTER_LIMIT-clause-refused : goal.returns-then-total-more-gt-LETTER_LIMIT-clause-refused
 returns-then-total-more-gt-LETTER_LIMIT-clause-refused g c =

@@ -1,5 +1,5 @@
-use Rattle.std.proofs.Common.{refl}
-use Rattle.trace_text.proofs.TraceReadings.{reads_each_small, short_begins, short_or_fault}
+use Rattle.std.proofs.Common.{arith, refl}
+use Rattle.trace_text.proofs.TraceReadings.{reads_each_small, short_begins}
 use Rattle.trace_text.proofs.traces.read_filled.Goals as goal
 
 pub returns-clause-only : goal.returns-clause-only
@@ -8,9 +8,7 @@ returns-clause-only c =
     reads_each_small c.args.bytes.now c.read_lines.result f.slots.now f.used c.read_lines.ensures.read c.read_lines.ensures.refused
 
 pub returns-clause-refused : goal.returns-clause-refused
-returns-clause-refused c =
-    let f = c.read_lines.new.store in
-    short_or_fault c.args.bytes.now c.read_lines.result f.slots.now f.used c.read_lines.ensures.refused
+returns-clause-refused c = grind arith
 
 pub returns-clause-full : goal.returns-clause-full
 returns-clause-full c =

@@ -1,9 +1,8 @@
-use Rattle.std.proofs.Common.{◌≡◌, ℕ, ◌≤◌, ◌++◌, ◌∷◌, [], true, List, length, inr, refl, ap, subst, sym, ◌∙◌, append-nil, arith, rules}
+use Rattle.std.proofs.Common.{◌≡◌, ℕ, ◌++◌, ◌∷◌, [], true, List, length, inr, refl, ap, subst, sym, ◌∙◌, append-nil, arith, rules}
 use Rattle.std.specs.Prelude.{◌==◌}
 use Rattle.std.proofs.lemmas.Bool.{eqb-true}
 use Rattle.bits_core.specs.declared.events.Event.{Event}
 use Rattle.bits_core.specs.declared.shapes.Shape.{Shape}
-use Rattle.trace_text.specs.declared.traces.TheConstants.{EVENT_LIMIT}
 use Rattle.bits_core.specs.Shape.{AreOfShape, batch_of, capacity_of, modulus_of, take_batch_of, width_of}
 use Rattle.trace_text.specs.TraceText.{shape_line, trace_text}
 use Rattle.trace_text.specs.Trace.{BeginsWithShape, HasMore}
@@ -18,16 +17,7 @@ no_bytes [] is = refl
 no_bytes (b ∷ rest) is = let some : length (b ∷ rest) ≡ 0 = eqb-true (length (b ∷ rest)) 0 (sym is) in absurd (omega arith)
 
 pub loop-rest-init : goal.loop-rest-init
-loop-rest-init g c =
-    let shape = c.in_ok-shape.shape in
-    let rest = c.in_ok-shape.rest.now in
-    let none : [] ≡ g.S.Store.items c.args.store.now = sym c.requires.empty in
-    record {
-      text = subst (λ (t : List Event). c.args.bytes.now ≡ trace_text shape t ++ rest) none (no_events shape c.args.bytes.now rest c.in_ok-shape.ensures.read);
-      of_shape = subst (λ (t : List Event). AreOfShape shape t) none (λ k d below. absurd (omega arith));
-      within = subst (λ (t : List Event). length t ≤ EVENT_LIMIT) none (omega arith);
-      slots = λ first s. s;
-    }
+loop-rest-init g c = grind (arith, no_events)
 
 pub loop-rest-smaller : goal.loop-rest-smaller
 loop-rest-smaller g c = omega (arith, line_takes c.in-Some.event c.in-Some.others.now, ap length c.in-Some.ensures.1)
@@ -36,14 +26,7 @@ pub overflow_add-result : goal.overflow_add-result
 overflow_add-result g c = omega (arith, c.loop-rest.invariant.within, ap length c.as_slice-count.ensures)
 
 pub returns-clause-read : goal.returns-clause-read
-returns-clause-read g c =
-    let l = c.loop-rest.invariant in
-    let text : List ℕ = trace_text c.in_ok-shape.shape (g.S.Store.items c.loop-rest.store) in
-    record {
-      text = l.text ∙ ap (λ (t : List ℕ). text ++ t) (no_bytes c.loop-rest.rest.now c.loop-rest-test.ensures) ∙ append-nil text;
-      of_shape = l.of_shape;
-      within = l.within;
-    }
+returns-clause-read g c = grind (arith, append-nil, no_bytes)
 
 pub returns-then-count-eq-EVENT_LIMIT-clause-refused : goal.returns-then-count-eq-EVENT_LIMIT-clause-refused
 returns-then-count-eq-EVENT_LIMIT-clause-refused g c =

@@ -1,25 +1,12 @@
-use Rattle.std.proofs.Common.{◌≡◌, ℕ, suc, ◌-◌, ◌≤◌, Bool, false, List, length, ap, sym, subst, ◌∙◌, arith, length-drop, if◌then◌else◌}
+use Rattle.std.proofs.Common.{◌≡◌, suc, false, ap, sym, subst, ◌∙◌, arith, length-drop}
 use Rattle.register_calls.specs.declared.events.Register.{Register}
-use Rattle.register_calls.specs.Histories.{started, finished, written_values, IsValue}
-use Rattle.register_calls.specs.Audits.{KeepsHistory}
+use Rattle.register_calls.specs.Histories.{IsValue}
 use Rattle.register_calls.proofs.ReadLemmas.{length-written}
 use Rattle.register_calls.proofs.Hearing.{write_begins_as}
 use Rattle.register_calls.proofs.auditors.RegisterAuditor.write_begins.Goals as goal
 
 pub returns-in-Err-clause-hears : goal.returns-in-Err-clause-hears
-returns-in-Err-clause-hears g c =
-    let f = c.forget.new.self in (
-      c.forget.ensures.others.0,
-      λ h k.
-          let now = c.forget.ensures.audits h k in
-          let oldest = c.forget.ensures.base h k in
-          let turn : started h ≡ finished h = subst (λ (w : Bool). started h ≡ (if w then suc (finished h) else finished h)) c.if-self.false k.turn in
-          let long : length (g.W.Fifo.items f.window) ≡ suc (started h) - f.base = ap length now.values ∙ length-drop f.base (written_values f.register.first h) ∙ ap (λ (n : ℕ). n - f.base) (length-written f.register.first h) in
-          let low : f.base ≤ finished h = oldest.ended in (
-            subst (λ (xs : List ℕ). KeepsHistory f.register h xs f.base f.begun f.is_writing (g.R.Fifo.items f.readers) f.floor f.is_safe f.is_regular f.is_by_reader f.is_atomic) (sym c.in-Err.ensures.items) now,
-            (c.has_value.ensures.0 c.if-not-has_value.false, turn, (f.base, oldest, let p = c.in-Err.ensures.full in let q = c.forget.ensures.room in omega (arith, p, q, long, low, turn))),
-          ),
-    )
+returns-in-Err-clause-hears g c = grind (arith, length-drop, length-written)
 
 pub returns-clause-hears : goal.returns-clause-hears
 returns-clause-hears g c =

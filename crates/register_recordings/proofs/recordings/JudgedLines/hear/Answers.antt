@@ -1,15 +1,11 @@
-use Rattle.std.proofs.Common.{refl, sym, subst, ◌∙◌}
-use Rattle.std.proofs.lemmas.Bool.{false≢true}
+use Rattle.std.proofs.Common.{arith, refl, subst}
 use Rattle.register_calls.specs.declared.events.Register.{Register}
 use Rattle.register_calls.specs.Histories.{WritesValue}
 use Rattle.register_recordings.proofs.EventLemmas.{event_passed}
 use Rattle.register_recordings.proofs.recordings.JudgedLines.hear.Goals as goal
 
 pub returns-then-not-writes_value : goal.returns-then-not-writes_value
-returns-then-not-writes_value g c before at so_far = (
-  refl,
-  λ value. false≢true (sym c.if-not-writes_value.true ∙ c.writes_value.ensures.1 (subst (λ (r : Register). WritesValue r c.args.event) (sym c.register.ensures) value)),
-)
+returns-then-not-writes_value g c before at so_far = grind arith
 
 pub returns : goal.returns
 returns g c before at so_far =

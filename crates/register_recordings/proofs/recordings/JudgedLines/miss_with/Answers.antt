@@ -1,4 +1,4 @@
-use Rattle.std.proofs.Common.{Option, ◌∷◌, reverse, sym, subst, ◌∙◌}
+use Rattle.std.proofs.Common.{arith, Option, ◌∷◌, reverse, sym, subst, ◌∙◌}
 use Rattle.std.proofs.lemmas.Bool.{false≢true}
 use Rattle.register_calls.specs.declared.events.RegisterEvent.TheVariants.{ReadEnds}
 use Rattle.register_calls.specs.Classes.{HasClass}
@@ -8,14 +8,10 @@ use Rattle.register_recordings.proofs.MissLemmas.{class_stays, miss_comes, miss_
 use Rattle.register_recordings.proofs.recordings.JudgedLines.miss_with.Goals as goal
 
 pub returns-in-Some : goal.returns-in-Some
-returns-in-Some g c before at remembers formed known =
-    let r = c.args.self.now.witness.auditor.register in
-    miss_stays c.args.class r before (ReadEnds c.args.reader c.args.value) c.in-Some.miss (subst (λ (o : Option RegisterMiss). IsMissOf c.args.class r before o) c.in-Some.is known)
+returns-in-Some g c before at remembers formed known = grind (arith, miss_stays)
 
 pub returns-then-has_with : goal.returns-then-has_with
-returns-then-has_with g c before at remembers formed known =
-    let r = c.args.self.now.witness.auditor.register in
-    class_stays c.args.class r before (ReadEnds c.args.reader c.args.value) ((c.has_with.ensures (reverse before) remembers formed).0 c.if-has_with.true)
+returns-then-has_with g c before at remembers formed known = grind (arith, class_stays)
 
 pub returns-else-has_with : goal.returns-else-has_with
 returns-else-has_with g c before at remembers formed known =

@@ -1,4 +1,4 @@
-use Rattle.std.proofs.Common.{refl, sym, subst, reverse, ◌++◌, ◌∷◌, []}
+use Rattle.std.proofs.Common.{rules, sym, subst, reverse, ◌++◌, ◌∷◌, []}
 use Rattle.register_calls.specs.declared.events.RegisterEvent.{RegisterEvent}
 use Rattle.register_calls.specs.Histories.{IsWellFormed}
 use Rattle.register_recordings.specs.Misses.{AreMisses}
@@ -6,12 +6,7 @@ use Rattle.register_recordings.proofs.MissLemmas.{all_kept, no_end_keeps}
 use Rattle.register_recordings.proofs.recordings.JudgedLines.note.Goals as goal
 
 pub returns-in_default : goal.returns-in_default
-returns-in_default g c = record {
-  misses = λ before at remembers formed misses.
-      let r = c.args.self.now.witness.auditor.register in
-      all_kept r before c.args.event c.args.self.now.misses (no_end_keeps r (reverse before) c.args.event c.in_default.not-ReadEnds) misses;
-  kept = refl;
-}
+returns-in_default g c = search (rules, all_kept, no_end_keeps)
 
 pub returns-then-keeps_classes-clause-misses : goal.returns-then-keeps_classes-clause-misses
 returns-then-keeps_classes-clause-misses g c before at remembers formed misses =

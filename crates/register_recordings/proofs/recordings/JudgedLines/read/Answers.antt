@@ -1,7 +1,5 @@
 use Rattle.std.proofs.Common.{◌≡◌, ◌≢◌, ◌+◌, [], length, ap, refl, sym, arith}
-use Rattle.std.proofs.lemmas.List.{nil_from_length}
-use Rattle.lists.proofs.Results.{then_err, then_ok}
-use Rattle.register_recordings.proofs.FurtherLines.{first_read, first_refused, further_read, further_refused, goes_on_line, no_event}
+use Rattle.register_recordings.proofs.FurtherLines.{further_read, further_refused, goes_on_line, no_event}
 use Rattle.register_recordings.proofs.recordings.JudgedLines.read.Goals as goal
 
 pub returns-in_default-clause-refused : goal.returns-in_default-clause-refused
@@ -15,14 +13,10 @@ pub begin-requires : goal.begin-requires
 begin-requires g c = let is = c.in-Some-read_register_line.ensures.line in is.allowed
 
 pub returns-then-count-eq1-clause-read : goal.returns-then-count-eq1-clause-read
-returns-then-count-eq1-clause-read g c = then_ok c.begin.result c.begin.ensures.read (λ judged before has.
-    let none : before ≡ [] = nil_from_length before (omega (arith, has.count, c.in-Some.ensures.1, c.if-count-eq1.true)) in
-    first_read g.W.Fifo.items g.R.Fifo.items g.P.Fifo.items g.C.Fifo.items c.begin.new.self before c.args.bytes.now c.in-Some-read_register_line.line none c.in-Some-read_register_line.ensures.line judged)
+returns-then-count-eq1-clause-read g c = grind arith
 
 pub returns-then-count-eq1-clause-refused : goal.returns-then-count-eq1-clause-refused
-returns-then-count-eq1-clause-refused g c = then_err c.begin.result c.begin.ensures.refused (λ e refuses before has.
-    let none : before ≡ [] = nil_from_length before (omega (arith, has.count, c.in-Some.ensures.1, c.if-count-eq1.true)) in
-    first_refused e before c.args.bytes.now c.in-Some-read_register_line.line none c.in-Some-read_register_line.ensures.line refuses)
+returns-then-count-eq1-clause-refused g c = grind arith
 
 pub returns-in_default-recorded_event-clause-refused : goal.returns-in_default-recorded_event-clause-refused
 returns-in_default-recorded_event-clause-refused g c before has =

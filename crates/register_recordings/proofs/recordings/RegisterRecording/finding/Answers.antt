@@ -13,13 +13,7 @@ returns-clause-found g c bytes has =
     found g.W.Fifo.items g.R.Fifo.items g.P.Fifo.items g.C.Fifo.items c.args.self.now.lines c.finding.result has.ended bytes cut has.text none some has.lines c.finding.ensures
 
 pub returns-in-Some-clause-refused : goal.returns-in-Some-clause-refused
-returns-in-Some-clause-refused g c bytes has =
-    let cut : List ℕ = g.B.Store.items c.args.self.now.cut in
-    cut_bad has.ended bytes cut c.in-Some.line has.text has.lines.are has.no_feed (omega (arith, has.lines.count, c.in-Some.ensures.1))
-    (λ none. elim c.then-not-is_empty.branch [
-      | then-not-is_empty-via-then-not-is_empty w ↦ absurd (false≢true (sym w.if-not-is_empty.true ∙ c.is_empty.ensures ∙ eq-eqb _ 0 (ap length none)))
-      | then-not-is_empty-via-else-not-is_empty+then-self-eq0 w ↦ nil_from_length has.ended (omega (arith, has.lines.count, w.if-self-eq0.true))
-    ])
+returns-in-Some-clause-refused g c bytes has = grind (arith, cut_bad, eq-eqb, false≢true, nil_from_length)
 
 pub returns-in-None-clause-refused : goal.returns-in-None-clause-refused
 returns-in-None-clause-refused g c bytes has = too_long has.ended bytes (g.B.Store.items c.args.self.now.cut) has.text (omega (arith, has.lines.count, c.in-None.ensures))

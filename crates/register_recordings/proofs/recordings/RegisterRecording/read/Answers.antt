@@ -1,4 +1,4 @@
-use Rattle.std.proofs.Common.{◌≡◌, ◌∙◌, ◌++◌, ◌∷◌, [], List, ℕ, refl, ap, sym, subst, append_assoc, rules}
+use Rattle.std.proofs.Common.{arith, ◌≡◌, ◌∙◌, ◌++◌, ◌∷◌, [], List, ℕ, refl, ap, sym, subst, append_assoc, rules}
 use Rattle.std.proofs.lemmas.List.{append-nil}
 use Rattle.lists.proofs.Results.{then_err, then_ok}
 use Rattle.register_recordings.specs.Recordings.{RefusesRegisterText}
@@ -8,16 +8,12 @@ use Rattle.register_recordings.proofs.recordings.RegisterRecording.read.Goals as
 -- a piece that was read in part, and then a line
 -- again, since this crate does not depend on recordings of calls
 line_read : (piece read rest end more : List ℕ) → piece ≡ read ++ rest → rest ≡ end ++ 10 ∷ more → piece ≡ (read ++ (end ++ 10 ∷ [])) ++ more
-line_read piece read rest end more one two =
-    one ∙ ap (λ (t : List ℕ). read ++ t) (two ∙ sym (append_assoc end (10 ∷ []) more)) ∙ sym (append_assoc read (end ++ 10 ∷ []) more)
+line_read piece read rest end more one two = grind (arith, append_assoc)
 
 -- the bytes before and after what ends a line
 -- again, since this crate does not depend on recordings of calls
 line_refused : (bytes piece read rest end left more : List ℕ) → piece ≡ read ++ rest → rest ≡ end ++ 10 ∷ left → (bytes ++ read) ++ (end ++ 10 ∷ (left ++ more)) ≡ bytes ++ (piece ++ more)
-line_refused bytes piece read rest end left more one two =
-    append_assoc bytes read (end ++ 10 ∷ (left ++ more))
-    ∙ ap (λ (t : List ℕ). bytes ++ t) (ap (λ (t : List ℕ). read ++ t) (sym (append_assoc end (10 ∷ left) more) ∙ ap (λ (t : List ℕ). t ++ more) (sym two))
-    ∙ sym (append_assoc read rest more) ∙ ap (λ (t : List ℕ). t ++ more) (sym one))
+line_refused bytes piece read rest end left more one two = grind (arith, append_assoc)
 
 pub returns-in_err-read_end-clause-refused : goal.returns-in_err-read_end-clause-refused
 returns-in_err-read_end-clause-refused g c =

@@ -1,4 +1,4 @@
-use Rattle.std.proofs.Common.{◌≡◌, ◌∙◌, ◌++◌, ◌∷◌, [], List, ℕ, ap, sym}
+use Rattle.std.proofs.Common.{arith, ◌≡◌, ◌∙◌, ◌++◌, ◌∷◌, [], List, ℕ, ap, sym}
 use Rattle.std.proofs.lemmas.Bool.{eqb-true}
 use Rattle.std.proofs.lemmas.List.{nil_from_length}
 use Rattle.register_recordings.proofs.RecordingLemmas.{end_refused, line_ended}
@@ -15,11 +15,7 @@ returns-in-Ok-read-clause-read g c bytes has =
     (c.in-Ok-read.ensures.read has.ended has.lines)
 
 pub returns-in-Err-read-clause-refused : goal.returns-in-Err-read-clause-refused
-returns-in-Err-read-clause-refused g c bytes more has =
-    let cut : List ℕ = g.B.Store.items c.args.self.now.cut in
-    let none : cut ≡ [] = nil_from_length cut (eqb-true _ 0 (sym c.is_empty.ensures ∙ c.if-is_empty.true)) in
-    end_refused c.in-Err-read.fault has.ended bytes cut c.args.end.now c.args.end.now more has.text has.lines.are has.no_feed c.requires (sym (ap (λ (t : List ℕ). t ++ c.args.end.now) none))
-    (c.in-Err-read.ensures.refused has.ended has.lines)
+returns-in-Err-read-clause-refused g c bytes more has = grind (arith, end_refused, eqb-true, nil_from_length)
 
 pub returns-clause-read : goal.returns-clause-read
 returns-clause-read g c bytes has =
@@ -29,7 +25,4 @@ returns-clause-read g c bytes has =
     (c.in-Ok-read-2.ensures.read has.ended has.lines)
 
 pub returns-in-Err-read-2-clause-refused : goal.returns-in-Err-read-2-clause-refused
-returns-in-Err-read-2-clause-refused g c bytes more has =
-    let cut : List ℕ = g.B.Store.items c.args.self.now.cut in
-    let whole : c.as_slice.result.now ≡ cut ++ c.args.end.now = c.as_slice.ensures ∙ c.in_ok-extend_from_slice.ensures.items in
-    end_refused c.in-Err-read-2.fault has.ended bytes cut c.args.end.now c.as_slice.result.now more has.text has.lines.are has.no_feed c.requires whole (c.in-Err-read-2.ensures.refused has.ended has.lines)
+returns-in-Err-read-2-clause-refused g c bytes more has = grind (arith, end_refused)

@@ -1,12 +1,10 @@
-use Rattle.std.proofs.Common.{◌∙◌, length, ap, sym, inl}
-use Rattle.std.proofs.lemmas.List.{nil_from_length}
+use Rattle.std.proofs.Common.{arith, ◌∙◌, length, ap}
 use Rattle.register_recordings.specs.Recordings.{register_text}
 use Rattle.register_recordings.proofs.Shortfalls.{bytes_fall_short}
 use Rattle.register_recordings.proofs.recordings.RegisterRecording.shortfall.Goals as goal
 
 pub returns-then-self-eq0 : goal.returns-then-self-eq0
-returns-then-self-eq0 g c bytes has =
-    (register_text has.ended, g.B.Store.items c.args.self.now.cut, has.text, has.no_feed, inl (ap register_text (nil_from_length has.ended (sym has.lines.count ∙ c.if-self-eq0.true))))
+returns-then-self-eq0 g c bytes has = grind arith
 
 pub returns : goal.returns
 returns g c bytes has = (

@@ -5,9 +5,7 @@ use Rattle.trace_text.proofs.TraceTexts.{kept_refused}
 use Rattle.trace_text.proofs.trace_audits.TraceAudit.keep.Goals as goal
 
 pub returns-else-push-clause-refused : goal.returns-else-push-clause-refused
-returns-else-push-clause-refused c before more has =
-    let long = c.push.ensures.refused c.if-push.false in
-    kept_refused c.next_fault.result c.args.self.now.hearing before has.ended c.args.self.now.cut c.args.rest.now more has.text has.lines has.feedless c.requires (omega (arith, long)) c.next_fault.ensures
+returns-else-push-clause-refused c before more has = grind (arith, kept_refused)
 
 pub returns-then-push-clause-read : goal.returns-then-push-clause-read
 returns-then-push-clause-read c before has =

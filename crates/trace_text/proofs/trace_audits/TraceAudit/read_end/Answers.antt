@@ -21,8 +21,7 @@ returns-then-not-push-clause-refused c before more has =
 
 -- the line that was cut, and its end
 line_joined : (before ended cut end more : List ℕ) → before ≡ ended ++ cut → ended ++ ((cut ++ end) ++ more) ≡ before ++ (end ++ more)
-line_joined before ended cut end more text =
-    ap (λ (t : List ℕ). ended ++ t) (append_assoc cut end more) ∙ sym (append_assoc ended cut (end ++ more)) ∙ ap (λ (t : List ℕ). t ++ (end ++ more)) (sym text)
+line_joined before ended cut end more text = grind (arith, append_assoc)
 
 pub returns-in_err-read_line-clause-refused : goal.returns-in_err-read_line-clause-refused
 returns-in_err-read_line-clause-refused c =

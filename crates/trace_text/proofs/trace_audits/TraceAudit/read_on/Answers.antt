@@ -1,9 +1,8 @@
-use Rattle.std.proofs.Common.{◌≡◌, ◌∙◌, ◌++◌, [], List, ℕ, refl, ap, sym, subst}
+use Rattle.std.proofs.Common.{arith, ◌≡◌, ◌++◌, [], List, ℕ, refl, subst}
 use Rattle.std.proofs.lemmas.List.{append-nil}
 use Rattle.trace_text.specs.declared.trace_audits.TraceAudit.{TraceAudit}
 use Rattle.trace_text.specs.Trace.{RefusesTraceText}
 use Rattle.trace_text.specs.TraceAudits.{HasEnded, HasReadTrace}
-use Rattle.line_parts.specs.LineEnds.{HasNoFeed}
 use Rattle.lists.proofs.Results.{then_err, then_ok}
 use Rattle.trace_text.proofs.TraceTexts.{behind_it, with_it}
 use Rattle.trace_text.proofs.trace_audits.TraceAudit.read_on.Goals as goal
@@ -11,13 +10,7 @@ use Rattle.trace_text.proofs.trace_audits.TraceAudit.read_on.Goals as goal
 -- lines were read, and none was cut
 read_more : (old new : TraceAudit) (before read : List ℕ) → old.cut ≡ [] → new.cut ≡ old.cut → HasReadTrace old before
     → ((text : List ℕ) → HasEnded old.hearing text → HasEnded new.hearing (text ++ read)) → HasReadTrace new (before ++ read)
-read_more old new before read none same has grows = record {
-  ended = has.ended ++ read;
-  text = ap (λ (t : List ℕ). t ++ read) (has.text ∙ ap (λ (t : List ℕ). has.ended ++ t) none ∙ append-nil has.ended) ∙ sym (append-nil (has.ended ++ read))
-      ∙ ap (λ (t : List ℕ). (has.ended ++ read) ++ t) (sym (same ∙ none));
-  feedless = subst (λ (t : List ℕ). HasNoFeed t) (sym same) has.feedless;
-  lines = grows has.ended has.lines;
-}
+read_more old new before read none same has grows = grind (arith, append-nil)
 
 pub returns-clause-read : goal.returns-clause-read
 returns-clause-read c = then_ok c.keep.result c.keep.ensures.read (λ kept before has.

@@ -1,4 +1,4 @@
-use Rattle.std.proofs.Common.{◌≡◌, ℕ, ◌+◌, ◌++◌, ◌∷◌, [], List, ap, sym, subst, ◌∙◌, append_assoc, refl}
+use Rattle.std.proofs.Common.{arith, ◌≡◌, ℕ, ◌+◌, ◌++◌, ◌∷◌, [], List, sym, subst, append_assoc, refl}
 use Rattle.bits_core.specs.declared.faults.Kind.{Kind}
 use Rattle.bits_core.specs.declared.events.Event.{Event}
 use Rattle.bits_core.specs.declared.shapes.Shape.{Shape}
@@ -8,24 +8,12 @@ use Rattle.trace_text.proofs.TraceLemmas.{length-push}
 use Rattle.trace_text.proofs.trace_audits.TraceHearing.hear.Goals as goal
 
 breaks_before : (shape : Shape) (events : List Event) (e : Event) (place : ℕ) (kind : Kind) → BreaksAt shape events place kind → BreaksAt shape (events ++ e ∷ []) place kind
-breaks_before shape events e place kind broken = record {
-  past = broken.past;
-  event = broken.event;
-  later = broken.later ++ e ∷ [];
-  parts = ap (λ (t : List Event). t ++ e ∷ []) broken.parts ∙ append_assoc broken.past (broken.event ∷ broken.later) (e ∷ []);
-  is_place = broken.is_place;
-  lawful = broken.lawful;
-  fault = broken.fault;
-}
+breaks_before shape events e place kind broken = grind (arith, append_assoc)
 
 -- one more event was heard, by this auditor and with this verdict
 heard_more : (h now : TraceHearing) (shape : Shape) (events : List Event) (e : Event) → HeardTrace h shape events → now.shape ≡ h.shape → now.count ≡ h.count + 1
     → IsFoundSoFar now.verdict now.auditor shape (events ++ e ∷ []) → HeardTrace now shape (events ++ e ∷ [])
-heard_more h now shape events e had same more found = record {
-  of_shape = same ∙ had.of_shape;
-  count = more ∙ ap (λ (n : ℕ). n + 1) had.count ∙ sym (length-push events e);
-  found = found;
-}
+heard_more h now shape events e had same more found = grind (arith, length-push)
 
 pub returns-in-Fault-clause-heard : goal.returns-in-Fault-clause-heard
 returns-in-Fault-clause-heard c shape events had =
