@@ -32,7 +32,8 @@ use Rattle.near_misses.specs.NearPlays.{IsNearPlay, NearAsked, NearBegins, NearE
 use Rattle.near_misses.specs.NearSides.{IsAskedToPut, IsAskedToTake, IsInOpenCall, IsNearReady, IsOpenDue, IsToldAt, NearHas, NearMoves, items_untold, put_stand, take_stand, with_ended}
 use Rattle.ring_player.specs.Tellings.{listed}
 use Rattle.queue_calls.specs.declared.events.CallEvent.{CallEvent}
-use Rattle.queue_calls.specs.declared.events.CallEvent.TheVariants.{PutBegins, CloseBegins, TakeBegins, TakeItems, TakeEmpty, TakeClosed}
+use Rattle.queue_calls.specs.declared.events.CallEvent.TheVariants.{PutBegins, CloseBegins, TakeBegins, TakeEnds}
+use Rattle.queue_calls.specs.declared.events.Reply.TheVariants.{Passed, Lacked, Shut}
 
 -- ---- the letters
 
@@ -103,7 +104,7 @@ makes_more asked n letters s h after told told_after taken taken_after t mid nex
 
 -- a side that has read none records none
 pub none_told : (t : Option (CallEvent ℕ ℕ)) → items_told t [] ≡ []
-none_told (Some (TakeItems k)) = refl
+none_told (Some (TakeEnds (Passed k))) = refl
 none_told t = refl
 
 -- the items that an event records and those that are read and not recorded are at most this many more than before
@@ -121,9 +122,9 @@ untold_is n is = ap (λ (b : Bool). if b then length n.read else 0) is
 
 ends_held : (asked : NearAsked) (before : NearStand) (t : Option (CallEvent ℕ ℕ)) (after : NearStand) → NearEnds asked C before t after → HoldsMore before t after 0
 ends_held asked before None after (in_call, is) = omega (arith, ap items_untold is)
-ends_held asked before (Some (TakeItems k)) after (in_call, a, b, c, is) = omega (arith, ap items_untold is, ap (λ (n : NearStand). length n.read) is, untold_is before in_call)
-ends_held asked before (Some TakeEmpty) after (in_call, is) = omega (arith, ap items_untold is)
-ends_held asked before (Some TakeClosed) after (in_call, is) = omega (arith, ap items_untold is)
+ends_held asked before (Some (TakeEnds (Passed k))) after (in_call, a, b, c, is) = omega (arith, ap items_untold is, ap (λ (n : NearStand). length n.read) is, untold_is before in_call)
+ends_held asked before (Some (TakeEnds Lacked)) after (in_call, is) = omega (arith, ap items_untold is)
+ends_held asked before (Some (TakeEnds Shut)) after (in_call, is) = omega (arith, ap items_untold is)
 ends_held asked before t after x = absurd x
 
 -- one more digit completes at most one item
@@ -244,7 +245,7 @@ put_unread asked (Write b w) v n = refl
 
 -- a write of a bit of the consumer's count, which was due, ends nothing or its take
 pub row_told : (miss : NearMiss) (order : Order) (bits : List Bool) (value : ℕ) (access : Access) (v : Bool) (told : Option (CallEvent ℕ ℕ)) (taken : ℕ) → IsRowAccess C order bits value (Some access)
-    → (told ≡ None) ⊎ (told ≡ Some (TakeItems taken)) → IsToldAt miss access v told
+    → (told ≡ None) ⊎ (told ≡ Some (TakeEnds (Passed taken))) → IsToldAt miss access v told
 row_told miss order bits value (Write b w) v told taken (i, is, due) (inl none) = subst (λ (x : Bit). IsToldByWrite miss x told) (sym is) (inl none)
 row_told miss order bits value (Write b w) v told taken (i, is, due) (inr some) = subst (λ (x : Bit). IsToldByWrite miss x told) (sym is) (inr (taken, some))
 row_told miss order bits value (Read b) v told taken x way = absurd x

@@ -6,7 +6,8 @@ use Rattle.bits_core.specs.Shape.{batch_of, capacity_of}
 use Rattle.bits_core.specs.declared.shapes.Shape.{Shape}
 use Rattle.ring_core.specs.Counts.{distance}
 use Rattle.queue_calls.specs.declared.events.CallEvent.{CallEvent}
-use Rattle.queue_calls.specs.declared.events.CallEvent.TheVariants.{PutStored, PutFull, CloseEnds, TakeItems, TakeEmpty, TakeClosed}
+use Rattle.queue_calls.specs.declared.events.CallEvent.TheVariants.{PutEnds, CloseEnds, TakeEnds}
+use Rattle.queue_calls.specs.declared.events.Reply.TheVariants.{Passed, Lacked, Shut}
 use Rattle.near_misses.specs.Misses.{near_modulus}
 use Rattle.near_misses.specs.declared.misses.NearMiss.{NearMiss}
 use Rattle.near_misses.specs.declared.misses.NearMiss.TheVariants.{CountBeforeCell, NoSecondScan}
@@ -29,7 +30,7 @@ items_seen miss shape count seen = if are_both_counts miss shape count seen && n
 
 -- how a take ends at the last read of a scan: Closed if it finds no item in its second scan
 abbrev pub scan_told : (found : ℕ) → (again : Bool) → Option (CallEvent ℕ ℕ)
-scan_told found again = if nat_lt 0 found then None else if again then Some TakeClosed else None
+scan_told found again = if nat_lt 0 found then None else if again then Some (TakeEnds Shut) else None
 
 -- and how it continues: with the items, or past its end, or with the close bit
 abbrev pub stage_after_scan : (found : ℕ) → (again : Bool) → taking.Stage
@@ -37,8 +38,8 @@ stage_after_scan found again = if nat_lt 0 found then taking.TheVariants.Reading
 
 -- how a take that reads the close bit ends: Empty if that is 0, and Closed at once if that is 1 and there is no second scan
 abbrev pub look_told : NearMiss → (closed : Bool) → Option (CallEvent ℕ ℕ)
-look_told miss false = Some TakeEmpty
-look_told NoSecondScan true = Some TakeClosed
+look_told miss false = Some (TakeEnds Lacked)
+look_told NoSecondScan true = Some (TakeEnds Shut)
 look_told _ true = None
 
 -- how many items a producer with this count has room for when it scans this count of the consumer, and may put at a time
@@ -47,7 +48,7 @@ room_seen miss shape count seen = if are_both_counts miss shape count seen then 
 
 -- how a put ends once it has scanned: Full if it finds no room
 abbrev pub room_told : (room : ℕ) → Option (CallEvent ℕ ℕ)
-room_told room = if nat_lt 0 room then None else Some PutFull
+room_told room = if nat_lt 0 room then None else Some (PutEnds Lacked)
 
 -- what a put that has found room continues with: with its count, or with its items
 abbrev pub first_stage : NearMiss → put.Stage
@@ -56,25 +57,25 @@ first_stage _ = put.TheVariants.Storing 0 0
 
 -- how a put that has written its items ends: it has stored this many, if it wrote its count before
 abbrev pub items_written_told : NearMiss → (storing : ℕ) → Option (CallEvent ℕ ℕ)
-items_written_told CountBeforeCell storing = Some (PutStored storing)
+items_written_told CountBeforeCell storing = Some (PutEnds (Passed storing))
 items_written_told _ storing = None
 
 -- and how it ends when it has written its count
 abbrev pub count_written_told : NearMiss → (storing : ℕ) → Option (CallEvent ℕ ℕ)
 count_written_told CountBeforeCell storing = None
-count_written_told _ storing = Some (PutStored storing)
+count_written_told _ storing = Some (PutEnds (Passed storing))
 
 -- The end of a call with a read of a bit with this value: for the close bit, as above; a read of a count ends a call only
 -- if it is 1, for a take that finds no item, or for a put that finds no room
 abbrev pub IsToldByRead : NearMiss → Bit → Bool → Option (CallEvent ℕ ℕ) → Type 0
 IsToldByRead miss X v told = told ≡ look_told miss v
-IsToldByRead miss (S i) v told = (told ≡ None) ⊎ ((v ≡ true) × (told ≡ Some TakeClosed))
-IsToldByRead miss (R i) v told = (told ≡ None) ⊎ ((v ≡ true) × (told ≡ Some PutFull))
+IsToldByRead miss (S i) v told = (told ≡ None) ⊎ ((v ≡ true) × (told ≡ Some (TakeEnds Shut)))
+IsToldByRead miss (R i) v told = (told ≡ None) ⊎ ((v ≡ true) × (told ≡ Some (PutEnds Lacked)))
 IsToldByRead miss (Cell j i) v told = told ≡ None
 
 -- and at the end of a write of a bit: the close with the close bit, items taken with a count, items stored with what the near miss writes last
 abbrev pub IsToldByWrite : NearMiss → Bit → Option (CallEvent ℕ ℕ) → Type 0
 IsToldByWrite miss X told = told ≡ Some CloseEnds
 IsToldByWrite miss (S i) told = (told ≡ None) ⊎ ((stored : ℕ) × (told ≡ count_written_told miss stored))
-IsToldByWrite miss (R i) told = (told ≡ None) ⊎ ((taken : ℕ) × (told ≡ Some (TakeItems taken)))
+IsToldByWrite miss (R i) told = (told ≡ None) ⊎ ((taken : ℕ) × (told ≡ Some (TakeEnds (Passed taken))))
 IsToldByWrite miss (Cell j i) told = (told ≡ None) ⊎ ((stored : ℕ) × (told ≡ items_written_told miss stored))

@@ -16,7 +16,8 @@ use Rattle.ring_player.specs.Tellings.{listed}
 use Rattle.near_misses.specs.NearEnds.{IsToldByRead, IsToldByWrite}
 use Rattle.near_misses.specs.declared.misses.NearMiss.{NearMiss}
 use Rattle.queue_calls.specs.declared.events.CallEvent.{CallEvent}
-use Rattle.queue_calls.specs.declared.events.CallEvent.TheVariants.{PutBegins, PutStored, PutFull, CloseBegins, CloseEnds, TakeBegins, TakeItems, TakeEmpty, TakeClosed}
+use Rattle.queue_calls.specs.declared.events.CallEvent.TheVariants.{PutBegins, PutEnds, CloseBegins, CloseEnds, TakeBegins, TakeEnds}
+use Rattle.queue_calls.specs.declared.events.Reply.TheVariants.{Passed, Lacked, Shut}
 use Rattle.ring_script.specs.Content.{Content}
 
 -- what a script requests, and from which near miss: a number of items, a number of takes, and a close, on a ring of this shape
@@ -66,15 +67,15 @@ NearBegins _ _ _ _ _ = ⊥
 -- as it took items, and one if it found the ring empty
 abbrev pub NearEnds : NearAsked → Side → NearStand → Option (CallEvent ℕ ℕ) → NearStand → Type 0
 NearEnds asked s before None after = (before.in_call ≡ true) × (after ≡ before)
-NearEnds asked P before (Some (PutStored count)) after =
+NearEnds asked P before (Some (PutEnds (Passed count))) after =
     (before.in_call ≡ true) × (before.count + count ≤ asked.items) × (after ≡ record before { in_call = false; count = before.count + count })
-NearEnds asked P before (Some PutFull) after = (before.in_call ≡ true) × (after ≡ record before { in_call = false })
+NearEnds asked P before (Some (PutEnds Lacked)) after = (before.in_call ≡ true) × (after ≡ record before { in_call = false })
 NearEnds asked P before (Some CloseEnds) after = (before.in_call ≡ true) × (after ≡ record before { in_call = false; over = true })
-NearEnds asked C before (Some (TakeItems taken)) after =
+NearEnds asked C before (Some (TakeEnds (Passed taken))) after =
     (before.in_call ≡ true) × (taken ≡ length before.read) × (1 ≤ taken) × (taken ≤ near_wanted asked before.count) ×
     (after ≡ record before { in_call = false; count = before.count + taken })
-NearEnds asked C before (Some TakeEmpty) after = (before.in_call ≡ true) × (after ≡ record before { in_call = false; count = suc before.count })
-NearEnds asked C before (Some TakeClosed) after = (before.in_call ≡ true) × (after ≡ record before { in_call = false; over = true })
+NearEnds asked C before (Some (TakeEnds Lacked)) after = (before.in_call ≡ true) × (after ≡ record before { in_call = false; count = suc before.count })
+NearEnds asked C before (Some (TakeEnds Shut)) after = (before.in_call ≡ true) × (after ≡ record before { in_call = false; over = true })
 NearEnds _ _ _ _ _ = ⊥
 
 -- an item with one more digit, if that was read as 1
@@ -102,7 +103,7 @@ NearStep asked s before WriteEnd b told after = NearEnds asked s before told aft
 
 -- the items of an event, for a take that has read these
 abbrev pub items_told : Option (CallEvent ℕ ℕ) → List ℕ → List ℕ
-items_told (Some (TakeItems taken)) read = read
+items_told (Some (TakeEnds (Passed taken))) read = read
 items_told _ read = []
 
 -- a side has stopped, or may stop: in a call, for good, because it finds no count; otherwise if nothing more is requested of it

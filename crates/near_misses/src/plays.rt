@@ -17,7 +17,7 @@ use crate::putting::NearPutter;
 use crate::sides::NearSide;
 use crate::taking::NearTaker;
 use bits_core::{Access, Event, Memory, MemoryFault, Oracle, Side, Store, Tape};
-use queue_calls::CallEvent;
+use queue_calls::{CallEvent, Reply};
 use ring_script::{Script, ScriptRef};
 use std::alloc::Allocator;
 
@@ -29,7 +29,7 @@ pub type NearFault = MemoryFault;
 /// What an event of a play by a near miss records of a call: the start of a put has how many items of the script were stored before it,
 /// the start of a take how many it asks for, and the end of one that took some how many.
 ///
-/// For example, `CallEvent::TakeItems(1)` is `C item 5` in a recording, and the item 5 is among those of all takes.
+/// For example, `CallEvent::TakeEnds(Reply::Passed(1))` is `C item 5` in a recording, and the item 5 is among those of all takes.
 pub type NearCall = CallEvent<usize, usize>;
 
 /// What was played: the history of the bits, the starts and ends of the calls, and the items of the takes that have ended, in order.
@@ -169,7 +169,7 @@ fn keep<I: Store<u64>>(
     ensures full { OnErr result (I.room taken.old < length (I.items taken.old) + length (items_told event items.now)) }
 {
     match event {
-        Some(NearCall::TakeItems(_)) => {
+        Some(NearCall::TakeEnds(Reply::Passed(_))) => {
             taken.extend_from_slice(items)?;
             Ok(())
         }

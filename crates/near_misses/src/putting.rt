@@ -8,6 +8,7 @@ use crate::plays::NearCall;
 use crate::rows::{NearRow, Order, read_bit};
 use crate::sides::NearSide;
 use bits_core::{Access, Bit, Shape, Side};
+use queue_calls::Reply;
 use ring_core::distance;
 
 // How far the call under way has come.
@@ -54,7 +55,8 @@ impl<'a> NearPutter<'a> {
     ghost use Rattle.near_misses.specs.NearSides.{IsAskedToPut, IsDueToPut, IsToldAt, PutterEnds, put_stand};
     ghost use Rattle.near_misses.specs.declared.misses.NearMiss.TheVariants.{CountBeforeCell};
     ghost use Rattle.near_misses.specs.declared.putting.Stage.TheVariants.{Counting, Storing};
-    ghost use Rattle.queue_calls.specs.declared.events.CallEvent.TheVariants.{PutStored};
+    ghost use Rattle.queue_calls.specs.declared.events.CallEvent.TheVariants.{PutEnds};
+    ghost use Rattle.queue_calls.specs.declared.events.Reply.TheVariants.{Passed};
 
     pub fn new(miss: NearMiss, shape: Shape, items: &'a [u64], closes: bool) -> Self
         ensures starts { put_stand result ≡ near_start }
@@ -157,7 +159,7 @@ impl<'a> NearPutter<'a> {
         let most = self.room_behind(seen);
         if most == 0 {
             self.stage = Stage::Between;
-            return Some(NearCall::PutFull);
+            return Some(NearCall::PutEnds(Reply::Lacked));
         }
         let modulus = self.miss.modulus(&self.shape);
         self.storing = most as usize;
@@ -218,7 +220,7 @@ impl<'a> NearPutter<'a> {
     fn put_is_over(&mut self) -> Option<NearCall>
         requires { (put_stand self.old).in_call ≡ true }
         ensures ends { PutterEnds self.old result self.new }
-        ensures told { result ≡ Some (PutStored self.old.storing) }
+        ensures told { result ≡ Some (PutEnds (Passed self.old.storing)) }
         ensures row { self.new.row ≡ self.old.row }
     {
         let stored = self.storing;
@@ -226,7 +228,7 @@ impl<'a> NearPutter<'a> {
         self.stored += stored;
         self.storing = 0;
         self.stage = Stage::Between;
-        Some(NearCall::PutStored(stored))
+        Some(NearCall::PutEnds(Reply::Passed(stored)))
     }
 }
 

@@ -11,6 +11,7 @@ use crate::plays::NearCall;
 use crate::rows::{NearRow, Order, read_bit};
 use crate::sides::NearSide;
 use bits_core::{Access, Bit, Shape, Side};
+use queue_calls::Reply;
 use ring_core::distance;
 
 // How far the call under way has come.
@@ -84,7 +85,8 @@ impl NearTaker {
     ghost use Rattle.near_misses.specs.Misses.{IsRowAccess};
     ghost use Rattle.near_misses.specs.NearEnds.{items_seen, look_told, scan_stage, scan_told, stage_after_scan};
     ghost use Rattle.near_misses.specs.NearPlays.{NearAsked, near_start, with_digit_read};
-    ghost use Rattle.queue_calls.specs.declared.events.CallEvent.TheVariants.{TakeItems};
+    ghost use Rattle.queue_calls.specs.declared.events.CallEvent.TheVariants.{TakeEnds};
+    ghost use Rattle.queue_calls.specs.declared.events.Reply.TheVariants.{Passed};
     ghost use Rattle.near_misses.specs.NearSides.{IsAskedToTake, TakerEnds, take_stand, taker_wants};
 
     pub fn new(miss: NearMiss, shape: Shape, takes: u64) -> Self
@@ -189,7 +191,7 @@ impl NearTaker {
             None
         } else if again {
             self.stage = Stage::Over;
-            Some(NearCall::TakeClosed)
+            Some(NearCall::TakeEnds(Reply::Shut))
         } else {
             self.stage = Stage::Looking;
             None
@@ -207,10 +209,10 @@ impl NearTaker {
         if !closed {
             self.used += 1;
             self.stage = Stage::Between;
-            Some(NearCall::TakeEmpty)
+            Some(NearCall::TakeEnds(Reply::Lacked))
         } else if self.miss == NearMiss::NoSecondScan {
             self.stage = Stage::Over;
-            Some(NearCall::TakeClosed)
+            Some(NearCall::TakeEnds(Reply::Shut))
         } else {
             self.stage = Stage::ScanningAgain(0);
             None
@@ -247,7 +249,7 @@ impl NearTaker {
     fn counted(&mut self) -> Option<NearCall>
         requires { self.old.stage ≡ Counting }
         ensures ends { TakerEnds self.old result self.new }
-        ensures told { (result ≡ None) ⊎ (result ≡ Some (TakeItems self.old.whole)) }
+        ensures told { (result ≡ None) ⊎ (result ≡ Some (TakeEnds (Passed self.old.whole))) }
         // All bits of the count are written.
         ensures shown { IsSome result → IsRowAccess C self.new.row.order self.new.row.bits self.new.row.value None }
         ensures goes_on { result ≡ None → (access : Access) × IsRowAccess C self.new.row.order self.new.row.bits
@@ -264,7 +266,7 @@ impl NearTaker {
         self.taken = self.taken.saturating_add(taken as u64);
         self.used += taken as u64;
         self.stage = Stage::Between;
-        Some(NearCall::TakeItems(taken))
+        Some(NearCall::TakeEnds(Reply::Passed(taken)))
     }
 }
 

@@ -1,14 +1,15 @@
 -- What is kept of a history keeps agreeing with the past, and what follows from that.
-use Rattle.std.proofs.Common.{◌≡◌, ◌⊎◌, inl, inr, ℕ, ◌+◌, ◌-◌, ◌<◌, ◌≤◌, Bool, true, false, ◌||◌, List, [], ◌∷◌, ◌++◌, map, length, take, drop, reverse, if◌then◌else◌, refl, sym, ap, subst, ◌∙◌, arith, length-append, append_assoc, append-nil}
+use Rattle.std.proofs.Common.{◌≡◌, ◌⊎◌, inl, inr, ℕ, ◌+◌, ◌-◌, ◌≤◌, Bool, true, false, ◌||◌, List, [], ◌∷◌, ◌++◌, map, length, take, drop, reverse, if◌then◌else◌, refl, sym, ap, subst, ◌∙◌, arith, length-append, append_assoc, append-nil}
 use Rattle.std.proofs.lemmas.Bool.{or_left, or_parts}
 use Rattle.std.proofs.lemmas.List.{length-map, map-append, take-map, drop-map, reverse-append}
-use Rattle.std.proofs.Math.Seq.{take-append-add, drop-append_seam}
+use Rattle.std.proofs.Math.Seq.{take-append-add, take-nil, drop-append_seam}
 use Rattle.queue_calls.specs.Queue.{Capacity}
-use Rattle.queue_calls.specs.Calls.{Event, PutBegin, PutStored, PutFull, PutShort, PutNothing, PutClosed, CloseBegin, CloseEnd, TakeBegin, TakeItems, TakeEmpty, TakeShort, TakeNothing, TakeClosed}
+use Rattle.queue_calls.specs.Calls.{Event, PutBegin, PutEnd, CloseBegin, CloseEnd, TakeBegin, TakeEnd, Reply, Shut, passed, is_shut}
 use Rattle.queue_calls.specs.State.{AreNext, offered_by, asked_by, has_closed}
 use Rattle.queue_calls.specs.Counting.{Kept, kept, without, Counts}
 use Rattle.call_causes.specs.declared.entries.Offered.{Offered}
 use Rattle.queue_calls.proofs.Agrees.{PutFits, PutAgrees, TakeAgrees, Agrees}
+use Rattle.queue_calls.proofs.Replies.{few, shut_is, told_on}
 use Rattle.queue_calls.specs.Reasons.{line_behind, has_begun, has_ended, has_told, before_take, offered_at, stored_at, taken_at, offers, stored, taken, wanted, n_of, k_of, coming, items_of}
 use Rattle.queue_calls.specs.declared.turns.PutTurn.{PutTurn}
 use Rattle.queue_calls.specs.declared.turns.PutTurn.TheVariants.{Free, Offers, Late, Closes}
@@ -188,79 +189,37 @@ module _ (past : List Event) (k : Kept) (a : Agrees past k) where
         steady = a.steady;
       }
 
-  stored_ends : (count : ℕ) (why : Bool) (n inside : ℕ) → k.put ≡ Offers n inside → count ≤ n → n - count ≤ length k.inside → Then (PutStored count why) (kept (without (n - count) k.inside) Free k.take k.shut)
-  stored_ends count why n inside e few some =
+  put_ends : (reply : Reply ℕ) (n inside : ℕ) → k.put ≡ Offers n inside → passed 0 reply ≤ n → n - passed 0 reply ≤ length k.inside → Then (PutEnd reply) (kept (without (n - passed 0 reply) k.inside) Free k.take k.shut)
+  put_ends reply n inside e fewer some =
       let (not_told, same) = offering n inside e in
       record {
         gone = a.gone;
-        row = ends (line_behind past) n inside count e few some;
+        row = ends (line_behind past) n inside (passed 0 reply) e fewer some;
         count = a.count;
         put_fits = (refl, same);
         take_fits = a.take_fits;
         shut = a.shut;
-        told = λ g. both ((without (n - count) k.inside ≡ []) × (has_begun past ≡ true)) (has_told past) g not_told;
+        told = λ g. both ((without (n - passed 0 reply) k.inside ≡ []) × (has_begun past ≡ true)) (has_told past) g not_told;
         ended = a.ended;
         steady = λ g. absurd (both ⊥ (has_begun past) (a.ended (ended_grows past g)) (as_put (Offers n inside) e).3);
       }
 
-  none_ends : (n inside : ℕ) → k.put ≡ Offers n inside → n ≤ length k.inside → a.gone ++ without n k.inside ≡ items_of (stored past ++ [])
-  none_ends n inside e some =
-      let whole : n - 0 ≡ n = omega arith in
-      let G : ℕ → Type 0 = λ z. a.gone ++ without z k.inside ≡ items_of (stored past ++ []) in
-      subst G whole
-      (cut n inside 0 e (omega arith) (omega (arith, some)) ∙ (append-nil (items_of (stored past)) ∙ ap items_of (sym (append-nil (stored past)))))
-
-  full_ends : (n inside : ℕ) → k.put ≡ Offers n inside → n ≤ length k.inside → Then PutFull (kept (without n k.inside) Free k.take k.shut)
-  full_ends n inside e some =
-      let (not_told, same) = offering n inside e in
-      record {
-        gone = a.gone;
-        row = none_ends n inside e some;
-        count = a.count;
-        put_fits = (refl, same);
-        take_fits = a.take_fits;
-        shut = a.shut;
-        told = λ g. both ((without n k.inside ≡ []) × (has_begun past ≡ true)) (has_told past) g not_told;
-        ended = a.ended;
-        steady = a.steady;
-      }
-
-  late_ends : (n : ℕ) → k.put ≡ Late n → Then PutClosed (kept k.inside Free k.take k.shut)
-  late_ends n e =
+  late_ends : (reply : Reply ℕ) (n : ℕ) → k.put ≡ Late n → Then (PutEnd reply) (kept k.inside Free k.take k.shut)
+  late_ends reply n e =
       let f = as_put (Late n) e in
+      let none : stored past ++ map (stored_at (line_behind past)) (take (passed 0 reply) (offers past)) ≡ stored past =
+      ap (λ z. stored past ++ map (stored_at (line_behind past)) z) (ap (λ z. take (passed 0 reply) z) f.0 ∙ take-nil (passed 0 reply)) ∙ append-nil (stored past) in
       record {
         gone = a.gone;
-        row = a.row ∙ ap (λ z. items_of (stored past ++ z)) f.0;
+        row = at_rest f.0 ∙ ap items_of (sym (append-nil _ ∙ none));
         count = a.count;
         put_fits = (refl, f.3 ∙ sym f.2);
         take_fits = a.take_fits;
         shut = a.shut;
         told = a.told;
         ended = a.ended;
-        steady = a.steady;
+        steady = λ g. omega (arith, ap length none, a.steady g);
       }
-
-  -- ends of a put that store nothing all change a past in the same way
-  none_stored : (event : Event) (n inside : ℕ) → k.put ≡ Offers n inside → n ≤ length k.inside → (event ≡ PutFull) ⊎ ((event ≡ PutShort) ⊎ (event ≡ PutNothing)) → Then event (kept (without n k.inside) Free k.take k.shut)
-  none_stored event n inside e some is =
-      let j = full_ends n inside e some in
-      let after = kept (without n k.inside) Free k.take k.shut in
-      elim is [
-        | inl g ↦ (let F : Event → Type 0 = λ z. Then z after in subst F (sym g) j)
-        | inr r ↦ elim r [
-          | inl g ↦ (
-              let F : Event → Type 0 = λ z. Then z after in
-              let j' : Then PutShort after = record { gone = j.gone; row = j.row; count = j.count; put_fits = j.put_fits; take_fits = j.take_fits; shut = j.shut; told = j.told; ended = j.ended; steady = j.steady } in subst F (sym g) j')
-          | inr g ↦ (
-              let F : Event → Type 0 = λ z. Then z after in
-              let j' : Then PutNothing after = record { gone = j.gone; row = j.row; count = j.count; put_fits = j.put_fits; take_fits = j.take_fits; shut = j.shut; told = j.told; ended = j.ended; steady = j.steady } in subst F (sym g) j')
-        ]
-      ]
-
-  late_nothing : (n : ℕ) → k.put ≡ Late n → Then PutNothing (kept k.inside Free k.take k.shut)
-  late_nothing n e =
-      let j = late_ends n e in
-      record { gone = j.gone; row = j.row; count = j.count; put_fits = j.put_fits; take_fits = j.take_fits; shut = j.shut; told = j.told; ended = j.ended; steady = j.steady }
 
   close_begins : k.put ≡ Free → Then CloseBegin (kept k.inside (Closes k.shut) k.take k.shut)
   close_begins e =
@@ -306,34 +265,25 @@ module _ (past : List Event) (k : Kept) (a : Agrees past k) where
         steady = λ g. omega arith;
       }
 
-  takes : (items : List ℕ) (why : Bool) → 0 < length items → AreNext items k.inside → Then (TakeItems items why) (kept (drop (length items) k.inside) k.put Rests k.shut)
-  takes items why some (rest, e) =
+  takes : (reply : Reply (List ℕ)) → is_shut reply ≡ false → AreNext (passed [] reply) k.inside → Then (TakeEnd reply) (kept (drop (length (passed [] reply)) k.inside) k.put Rests k.shut)
+  takes reply open' (rest, e) =
+      let items : List ℕ = passed [] reply in
       let left : drop (length items) k.inside ≡ rest = ap (λ z. drop (length items) z) e ∙ drop-append_seam items rest in
       record {
         gone = a.gone ++ items;
         row = append_assoc a.gone items (drop (length items) k.inside) ∙ (ap (λ z. a.gone ++ (items ++ z)) left ∙ (ap (λ z. a.gone ++ z) (sym e) ∙ a.row));
-        count =
-            omega (arith, length-append a.gone items, a.count, length-append (taken past) (map (taken_at (line_behind past)) items), length-map items (taken_at (line_behind past)));
+        count = omega (arith, length-append a.gone items, a.count, length-append (taken past) (map (taken_at (line_behind past)) items), length-map items (taken_at (line_behind past)));
         put_fits = a.put_fits;
         take_fits = refl;
-        shut = a.shut;
-        told = λ g. absurd (omega (arith, some, ap length e, length-append items rest, ap length (a.told g).0));
+        shut = a.shut ∙ ap (λ z. has_ended past || z) (sym (told_on reply past open'));
+        told = λ g. let (none, begun) = a.told (sym (told_on reply past open') ∙ g) in (left ∙ (append_right items rest (sym e ∙ none)), begun);
         ended = a.ended;
         steady = a.steady;
       }
-
-  -- a take ends with none
-  takes_none : (event : Event) → (event ≡ TakeEmpty) ⊎ ((event ≡ TakeShort) ⊎ (event ≡ TakeNothing)) → Then event (kept (drop 0 k.inside) k.put Rests k.shut)
-  takes_none event is =
-      let after = kept (drop 0 k.inside) k.put Rests k.shut in
-      let F : Event → Type 0 = λ z. Then z after in
-      elim is [
-        | inl g ↦ subst F (sym g) (record { gone = a.gone; row = a.row; count = a.count; put_fits = a.put_fits; take_fits = refl; shut = a.shut; told = a.told; ended = a.ended; steady = a.steady })
-        | inr r ↦ elim r [
-          | inl g ↦ subst F (sym g) (record { gone = a.gone; row = a.row; count = a.count; put_fits = a.put_fits; take_fits = refl; shut = a.shut; told = a.told; ended = a.ended; steady = a.steady })
-          | inr g ↦ subst F (sym g) (record { gone = a.gone; row = a.row; count = a.count; put_fits = a.put_fits; take_fits = refl; shut = a.shut; told = a.told; ended = a.ended; steady = a.steady })
-        ]
-      ]
+    where
+      append_right : (xs ys : List ℕ) → xs ++ ys ≡ [] → ys ≡ []
+      append_right [] ys e = e
+      append_right (x ∷ xs) ys e = absurd cc
 
   begun_fits :
       (put : PutTurn) (shut : Bool) → PutAgrees past put →
@@ -355,12 +305,12 @@ module _ (past : List Event) (k : Kept) (a : Agrees past k) where
   pub closing : has_begun past ≡ true → has_closed k.put k.shut ≡ true
   closing g = closing_fits k.put k.shut a.put_fits a.shut g
 
-  takes_closed : k.inside ≡ [] → has_closed k.put k.shut ≡ true → Then TakeClosed (kept [] k.put Rests true)
+  takes_closed : k.inside ≡ [] → has_closed k.put k.shut ≡ true → Then (TakeEnd Shut) (kept [] k.put Rests true)
   takes_closed none closed =
       record {
         gone = a.gone;
         row = ap (λ z. a.gone ++ z) (sym none) ∙ a.row;
-        count = a.count;
+        count = a.count ∙ ap length (sym (append-nil (taken past)));
         put_fits = a.put_fits;
         take_fits = refl;
         shut = or_last (has_ended past);
@@ -375,22 +325,17 @@ module _ (past : List Event) (k : Kept) (a : Agrees past k) where
     | inl b ↦ to (PutBegin items) after _ b.1 (open_begins items free b.0)
     | inr b ↦ to (PutBegin items) after _ b.1 (late_begins items free b.0)
   ]
-  step capacity (PutStored count why) after (n, inside, is, some, few, lacks, fits) = to (PutStored count why) after _ fits.1 (stored_ends count why n inside is few fits.0.0)
-  step capacity PutFull after (n, inside, is, lacks, fits) = to PutFull after _ fits.1 (none_stored PutFull n inside is fits.0.0 (inl refl))
-  step capacity PutShort after (n, inside, is, several, lacks, fits) = to PutShort after _ fits.1 (none_stored PutShort n inside is fits.0.0 (inr (inl refl)))
-  step capacity PutNothing after ends' = elim ends' [
-    | inl b ↦ (let (n, inside, is, fits) = b in to PutNothing after _ fits.1 (none_stored PutNothing n inside is fits.0.0 (inr (inr refl))))
-    | inr b ↦ (let (n, is, e) = b in to PutNothing after _ e (late_nothing n is))
+  step capacity (PutEnd reply) after ends' = elim ends' [
+    | inl (n, inside, is, open', within, lacks, fits) ↦ to (PutEnd reply) after _ fits.1 (put_ends reply n inside is (few (λ n. n) 0 reply n refl within) fits.0.0)
+    | inr (n, is, none, e) ↦ to (PutEnd reply) after _ e (late_ends reply n is)
   ]
-  step capacity PutClosed after (n, is, e) = to PutClosed after _ e (late_ends n is)
   step capacity CloseBegin after (free, e) = to CloseBegin after _ e (close_begins free)
   step capacity CloseEnd after (again, is, e) = to CloseEnd after _ e (close_ends again is)
   step capacity (TakeBegin wanted) after (rests, some, e) = to (TakeBegin wanted) after _ e (take_begins wanted)
-  step capacity (TakeItems items why) after (wanted, before, closed, is, some, few, lacks, next, fits) = to (TakeItems items why) after _ fits.1 (takes items why some next)
-  step capacity TakeEmpty after (wanted, before, is, none, fits) = to TakeEmpty after _ fits.1 (takes_none TakeEmpty (inl refl))
-  step capacity TakeShort after (wanted, before, closed, is, several, less, found, fits) = to TakeShort after _ fits.1 (takes_none TakeShort (inr (inl refl)))
-  step capacity TakeNothing after (wanted, before, closed, is, fits) = to TakeNothing after _ fits.1 (takes_none TakeNothing (inr (inr refl)))
-  step capacity TakeClosed after (wanted, before, closed, is, none, begun, e) = to TakeClosed after _ e (takes_closed none begun)
+  step capacity (TakeEnd reply) after (wanted, before, closed, is, ends') = elim ends' [
+    | inl (open', within, found, next, fits) ↦ to (TakeEnd reply) after _ fits.1 (takes reply open' next)
+    | inr (shuts, none, begun, e) ↦ subst (λ z. Then (TakeEnd z) after) (sym (shut_is reply shuts)) (to (TakeEnd Shut) after _ e (takes_closed none begun))
+  ]
 
 -- before the first event
 pub at_first : Agrees [] (kept [] Free Rests false)

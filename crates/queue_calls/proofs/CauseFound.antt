@@ -3,10 +3,10 @@ use Rattle.std.proofs.Common.{◌≡◌, ◌↔◌, ◌⊎◌, inl, inr, ℕ, su
 use Rattle.std.proofs.lemmas.Bool.{false_from_ne_true, or_left, or_right, or_from, or_parts, not-false, not_from_true, ltb-true, ltb-false, lt-ltb, le-ltb, eqb-true, eqb-false, eq-eqb, ne_eqb, cond-true, cases_Bool}
 use Rattle.std.proofs.lemmas.Option.{none-some}
 use Rattle.queue_calls.specs.Queue.{Capacity, Unbounded, Between, LacksRoom}
-use Rattle.queue_calls.specs.Calls.{Event, PutBegin, PutStored, PutFull, PutShort, PutNothing, PutClosed, CloseBegin, CloseEnd, TakeBegin, TakeItems, TakeEmpty, TakeShort, TakeNothing, TakeClosed, IsLinearizable}
+use Rattle.queue_calls.specs.Calls.{Event, PutBegin, PutEnd, CloseBegin, CloseEnd, TakeBegin, TakeEnd, Reply, Passed, Lacked, Short, Nothing, Shut, passed, is_shut, CanReply, lacked_by, IsLinearizable}
 use Rattle.queue_calls.specs.InTurn.{NoCall, APut, AClose, ATake, Sides, sides, MovesSides}
 use Rattle.queue_calls.specs.State.{IsProper, MayHold, AreNext, CanEndPut, CanEndTake, offered_by, asked_by, call_of_put, call_of_take, sides_of}
-use Rattle.queue_calls.specs.Counting.{Kept, kept, without, Counts, AreCounted}
+use Rattle.queue_calls.specs.Counting.{Kept, kept, without, FoundFewer, Counts, AreCounted}
 use Rattle.queue_calls.specs.Reasons.{line_behind, stored_at, has_ended, has_told, before_put, before_take, offers, stored, wanted, n_of, k_of, coming, can_hold, can_lack, stored_cause, full_cause, put_short_cause, not_taken_cause, fewer_cause, items_cause, empty_cause, take_short_cause, closed_cause, cause_of, CauseIsReason, FaultHasACause, items_of}
 use Rattle.call_causes.specs.declared.causes.Cause.{Cause}
 use Rattle.call_causes.specs.declared.entries.Offered.{Offered}
@@ -20,6 +20,7 @@ use Rattle.queue_calls.proofs.CauseTests.{can_hold_tells, can_lack_tells, and_of
 use Rattle.queue_calls.proofs.CountedHistories.{Stands, counts_keeps}
 use Rattle.queue_calls.proofs.CountsFollow.{counts_are_exact}
 use Rattle.queue_calls.proofs.Ends.TakeBegins.{keeps_nothing}
+use Rattle.queue_calls.proofs.Replies.{fewer_told, found_fewer, lacks_more, lacks_room, may_lack_more, shut_is}
 use Rattle.queue_calls.proofs.TurnLemmas.{last_turn, same_turns}
 pub use Rattle.queue_calls.proofs.CountedHistories.{stands_linear as standing}
 
@@ -31,7 +32,7 @@ lacks_as (Between full most) a b c d e l = omega (arith, e, l)
 -- what was stored before the take is no more than what is stored
 pub stored_grows : (past : List Event) → n_of (before_take past) ≤ n_of past
 stored_grows [] = omega arith
-stored_grows (PutStored count why ∷ past) = omega (arith, stored_grows past, length-append (stored past) (map (stored_at (line_behind past)) (take count (offers past))))
+stored_grows (PutEnd reply ∷ past) = omega (arith, stored_grows past, length-append (stored past) (map (stored_at (line_behind past)) (take (passed 0 reply) (offers past))))
 stored_grows (TakeBegin count ∷ past) = omega arith
 stored_grows (_ ∷ past) = stored_grows past
 
@@ -274,57 +275,84 @@ module _ (capacity : Capacity) (past : List Event) (k : Kept) (a : Agrees past k
 
   -- ---- nothing contradicts an event that can be counted
 
+  taken_unspoken :
+      (limit n inside : ℕ) (closed : Bool) (reply : Reply (List ℕ)) → k.take ≡ Waits n inside closed → is_shut reply ≡ false → CanReply reply (length (passed [] reply)) n →
+      FoundFewer inside closed (length (passed [] reply)) (lacked_by reply (length (passed [] reply)) (n - length (passed [] reply))) → AreNext (passed [] reply) k.inside →
+      CanEndTake capacity (length k.inside) (offered_by k.put) (length (passed [] reply)) → cause_of limit capacity (TakeEnd reply) past ≡ None
+  taken_unspoken limit n inside closed (Passed items why) is open' (some, few) found (rest, next) fits =
+      let within : 0 < length k.inside = omega (arith, some, ap length next, length-append items rest) in
+      let fewer : why ≡ true → length items < n → inside ≤ length items = fewer_told inside closed items n why found in
+      off _ _ _ (some_untold within)
+      ((are_next limit items why).1 ((rest, next), off _ _ _ ((no_more n inside closed (length items) why is).1 fewer) ((left_fit (length items)).1 fits)))
+  taken_unspoken limit n inside closed Lacked is open' within found next fits =
+      let (less, more) = found (omega arith) in
+      let not_closed : closed ≡ false = false_from_ne_true closed (λ e. omega (arith, less, more refl e)) in
+      let f = as_take past k a (Waits n inside closed) is in
+      let (not_ended, not_told) = or_parts (has_ended (before_take past)) (has_told past) (sym f.2 ∙ not_closed) in
+      off _ _ _ not_told (off _ _ _ ((none_found n inside closed is).1 (omega (arith, less))) (off _ _ _ not_ended ((left_fit 0).1 fits)))
+  taken_unspoken limit n inside closed Short is open' several found next fits =
+      let (less, more) = found (omega (arith, several)) in
+      let not_told = found_untold n inside closed is (more refl) in
+      off _ _ _ not_told
+      (off _ _ _ ((fewer_found n inside closed is (omega (arith, several))).1 (omega (arith, less))) (off _ _ _ ((drained n inside closed is not_told).1 (more refl)) ((left_fit 0).1 fits)))
+  taken_unspoken limit n inside closed Nothing is open' within found next fits = (left_fit 0).1 fits
+  taken_unspoken limit n inside closed Shut is open' within found next fits = absurd cc
+
   pub unspoken : (limit : ℕ) (event : Event) (after : Kept) → Counts capacity k event after → cause_of limit capacity event past ≡ None
   unspoken limit (PutBegin items) after c = refl
-  unspoken limit (PutStored count why) after (n, inside, is, some, few, lacks, fits) =
-      off _ _ _ (as_put past k a (Offers n inside) is).1
-      (off _ _ _ ((rest_inside n inside count is few).1 fits.0.0)
-      (off _ _ _ ((stored_fit n inside count is few).1 fits.0.1) (off _ _ _ ((some_lack n inside count why is).1 lacks) refl)))
-  unspoken limit PutFull after (n, inside, is, lacks, fits) =
-      off _ _ _ (as_put past k a (Offers n inside) is).1 (off _ _ _ ((all_inside n inside is).1 fits.0.0) (off _ _ _ ((none_lack n inside 1 is).1 lacks) refl))
-  unspoken limit PutShort after (n, inside, is, several, lacks, fits) =
-      let f = as_put past k a (Offers n inside) is in
-      let lacks_all : LacksRoom capacity inside (length (offers past)) = subst (λ z. LacksRoom capacity inside z) (sym f.0) lacks in
-      off _ _ _ f.1 (off _ _ _ ((all_inside n inside is).1 fits.0.0) (off _ _ _ ((none_lack n inside (length (offers past)) is).1 lacks_all) refl))
-  unspoken limit PutNothing after c = elim c [
-    | inl b ↦ (let (n, inside, is, fits) = b in off _ _ _ ((all_inside n inside is).1 fits.0.0) refl)
-    | inr b ↦ (let (n, is, e) = b in off _ _ _ (late_inside n is) refl)
+  unspoken limit (PutEnd (Passed count why)) after c = elim c [
+    | inl (n, inside, is, open', within, lacks, fits) ↦
+        off _ _ _ (as_put past k a (Offers n inside) is).1
+        (off _ _ _ ((rest_inside n inside count is within.1).1 fits.0.0)
+        (off _ _ _ ((stored_fit n inside count is within.1).1 fits.0.1) (off _ _ _ ((some_lack n inside count why is).1 (lacks_more capacity inside count n why lacks)) refl)))
+    | inr (n, is, none, e) ↦ absurd (elim none [ inl g ↦ cc | inr g ↦ cc ])
   ]
-  unspoken limit PutClosed after (n, is, e) = cond-true _ _ _ (as_put past k a (Late n) is).1
+  unspoken limit (PutEnd Lacked) after c = elim c [
+    | inl (n, inside, is, open', within, lacks, fits) ↦
+        off _ _ _ (as_put past k a (Offers n inside) is).1
+        (off _ _ _ ((all_inside n inside is).1 (omega (arith, fits.0.0))) (off _ _ _ ((none_lack n inside 1 is).1 (lacks_room capacity inside 1 (omega arith) lacks)) refl))
+    | inr (n, is, none, e) ↦ absurd (elim none [ inl g ↦ cc | inr g ↦ cc ])
+  ]
+  unspoken limit (PutEnd Short) after c = elim c [
+    | inl (n, inside, is, open', several, lacks, fits) ↦ (
+        let f = as_put past k a (Offers n inside) is in
+        let lacks_all : LacksRoom capacity inside (length (offers past)) = subst (λ z. LacksRoom capacity inside z) (omega (arith, f.0)) (lacks_room capacity inside (n - 0) (omega (arith, several)) lacks) in
+        off _ _ _ f.1 (off _ _ _ ((all_inside n inside is).1 (omega (arith, fits.0.0))) (off _ _ _ ((none_lack n inside (length (offers past)) is).1 lacks_all) refl)))
+    | inr (n, is, none, e) ↦ absurd (elim none [ inl g ↦ cc | inr g ↦ cc ])
+  ]
+  unspoken limit (PutEnd Nothing) after c = elim c [
+    | inl (n, inside, is, open', within, lacks, fits) ↦ off _ _ _ ((all_inside n inside is).1 (omega (arith, fits.0.0))) refl
+    | inr (n, is, none, e) ↦ off _ _ _ (late_inside n is) refl
+  ]
+  unspoken limit (PutEnd Shut) after c = elim c [
+    | inl (n, inside, is, open', within, lacks, fits) ↦ absurd cc
+    | inr (n, is, none, e) ↦ cond-true _ _ _ (as_put past k a (Late n) is).1
+  ]
   unspoken limit CloseBegin after c = refl
   unspoken limit CloseEnd after c = refl
   unspoken limit (TakeBegin count) after c = refl
-  unspoken limit (TakeItems items why) after (n, inside, closed, is, some, few, found, (rest, next), fits) =
-      let within : 0 < length k.inside = omega (arith, some, ap length next, length-append items rest) in
-      off _ _ _ (some_untold within)
-      ((are_next limit items why).1 ((rest, next), off _ _ _ ((no_more n inside closed (length items) why is).1 found) ((left_fit (length items)).1 fits.0)))
-  unspoken limit TakeEmpty after (n, inside, is, none, fits) =
-      let f = as_take past k a (Waits n inside false) is in
-      let (not_ended, not_told) = or_parts (has_ended (before_take past)) (has_told past) (sym f.2) in
-      off _ _ _ not_told (off _ _ _ ((none_found n inside false is).1 none) (off _ _ _ not_ended ((left_fit 0).1 fits.0)))
-  unspoken limit TakeShort after (n, inside, closed, is, several, less, found, fits) =
-      let not_told = found_untold n inside closed is found in
-      off _ _ _ not_told
-      (off _ _ _ ((fewer_found n inside closed is (omega (arith, several))).1 less) (off _ _ _ ((drained n inside closed is not_told).1 found) ((left_fit 0).1 fits.0)))
-  unspoken limit TakeNothing after (n, inside, closed, is, fits) = (left_fit 0).1 fits.0
-  unspoken limit TakeClosed after (n, inside, closed, is, none, begun, e) = cond-true _ _ _ (begun_is past k a begun) ∙ none_inside.1 none
+  unspoken limit (TakeEnd reply) after (n, inside, closed, is, c) = elim c [
+    | inl (open', within, found, next, fits) ↦ taken_unspoken limit n inside closed reply is open' within found next fits.0
+    | inr (shuts, none, begun, e) ↦
+        subst (λ z. cause_of limit capacity (TakeEnd z) past ≡ None) (sym (shut_is reply shuts)) (cond-true _ _ _ (begun_is past k a begun) ∙ none_inside.1 none)
+  ]
 
 module _ (capacity : Capacity) (past : List Event) (k : Kept) (a : Agrees past k) (few : MayHold capacity (length k.inside - (offered_by k.put + asked_by k.take))) where
   abbrev pub Counted : Event → Type 0
   Counted event = (after : Kept) × Counts capacity k event after
 
   -- the put under way can end with none stored
-  can_end : (n inside : ℕ) → k.put ≡ Offers n inside → nat_lt (n_of past) (k_of past) ≡ false → CanEndPut capacity (length k.inside) (asked_by k.take) n
+  can_end : (n inside : ℕ) → k.put ≡ Offers n inside → nat_lt (n_of past) (k_of past) ≡ false → CanEndPut capacity (length k.inside) (asked_by k.take) (n - 0)
   can_end n inside is e =
       let f = as_put past k a (Offers n inside) is in
-      let same : length k.inside - (offered_by k.put + asked_by k.take) ≡ (length k.inside - n) - asked_by k.take = omega (arith, offered_is past k a, f.0) in
-      ((all_inside capacity past k a n inside is).0 e, subst (λ z. MayHold capacity z) same few)
+      let same : length k.inside - (offered_by k.put + asked_by k.take) ≡ (length k.inside - (n - 0)) - asked_by k.take = omega (arith, offered_is past k a, f.0) in
+      (omega (arith, (all_inside capacity past k a n inside is).0 e), subst (λ z. MayHold capacity z) same few)
 
   -- if the put began before a close had ended
   early : {A : Type 0} (n : ℕ) → k.put ≡ Late n → has_ended (before_put past) ≡ false → A
   early {A} n is e = both A (has_ended (before_put past)) (as_put past k a (Late n) is).1 e
 
-  stored_counted : (count : ℕ) (why : Bool) (n : ℕ) → 0 < count → count ≤ n → call_of_put k.put ≡ APut n → stored_cause capacity count why past ≡ None → Counted (PutStored count why)
+  stored_counted : (count : ℕ) (why : Bool) (n : ℕ) → 0 < count → count ≤ n → call_of_put k.put ≡ APut n → stored_cause capacity count why past ≡ None → Counted (PutEnd (Passed count why))
   stored_counted count why n some least is e =
       let (open', e1) = none_off _ _ _ e in
       let (enough, e2) = none_off _ _ _ e1 in
@@ -334,20 +362,20 @@ module _ (capacity : Capacity) (past : List Event) (k : Kept) (a : Agrees past k
         | inl o ↦ (
             let (inside, is_put) = o in (
               kept (without (n - count) k.inside) Free k.take k.shut,
-              (
+              inl (
                 n,
                 inside,
                 is_put,
-                some,
-                least,
-                (some_lack capacity past k a n inside count why is_put).0 lack,
+                refl,
+                (some, least),
+                may_lack_more capacity inside count n why ((some_lack capacity past k a n inside count why is_put).0 lack),
                 (((rest_inside capacity past k a n inside count is_put least).0 enough, (stored_fit capacity past k a n inside count is_put least).0 fit), refl),
               ),
             ))
         | inr late ↦ early n late open'
       ]
 
-  full_counted : (n : ℕ) → call_of_put k.put ≡ APut n → full_cause capacity past ≡ None → Counted PutFull
+  full_counted : (n : ℕ) → call_of_put k.put ≡ APut n → full_cause capacity past ≡ None → Counted (PutEnd Lacked)
   full_counted n is e =
       let (open', e1) = none_off _ _ _ e in
       let (enough, e2) = none_off _ _ _ e1 in
@@ -355,13 +383,13 @@ module _ (capacity : Capacity) (past : List Event) (k : Kept) (a : Agrees past k
       elim (put_of k.put n is) [
         | inl o ↦ (
             let (inside, is_put) = o in (
-              kept (without n k.inside) Free k.take k.shut,
-              (n, inside, is_put, (none_lack capacity past k a n inside 1 is_put).0 lack, (can_end n inside is_put enough, refl)),
+              kept (without (n - 0) k.inside) Free k.take k.shut,
+              inl (n, inside, is_put, refl, tt, inr ((none_lack capacity past k a n inside 1 is_put).0 lack), (can_end n inside is_put enough, refl)),
             ))
         | inr late ↦ early n late open'
       ]
 
-  put_short_counted : (n : ℕ) → call_of_put k.put ≡ APut n → 1 < n → put_short_cause capacity past ≡ None → Counted PutShort
+  put_short_counted : (n : ℕ) → call_of_put k.put ≡ APut n → 1 < n → put_short_cause capacity past ≡ None → Counted (PutEnd Short)
   put_short_counted n is several e =
       let (open', e1) = none_off _ _ _ e in
       let (enough, e2) = none_off _ _ _ e1 in
@@ -369,28 +397,28 @@ module _ (capacity : Capacity) (past : List Event) (k : Kept) (a : Agrees past k
       elim (put_of k.put n is) [
         | inl o ↦ (
             let (inside, is_put) = o in
-            let same : length (offers past) ≡ n = (as_put past k a (Offers n inside) is_put).0 in
-            let lacks : LacksRoom capacity inside n = subst (λ z. LacksRoom capacity inside z) same ((none_lack capacity past k a n inside (length (offers past)) is_put).0 lack) in
-            (kept (without n k.inside) Free k.take k.shut, (n, inside, is_put, several, lacks, (can_end n inside is_put enough, refl))))
+            let same : length (offers past) ≡ n - 0 = omega (arith, (as_put past k a (Offers n inside) is_put).0) in
+            let lacks : LacksRoom capacity inside (n - 0) = subst (λ z. LacksRoom capacity inside z) same ((none_lack capacity past k a n inside (length (offers past)) is_put).0 lack) in
+            (kept (without (n - 0) k.inside) Free k.take k.shut, inl (n, inside, is_put, refl, several, inr lacks, (can_end n inside is_put enough, refl))))
         | inr late ↦ early n late open'
       ]
 
-  put_nothing_counted : (limit n : ℕ) → call_of_put k.put ≡ APut n → cause_of limit capacity PutNothing past ≡ None → Counted PutNothing
+  put_nothing_counted : (limit n : ℕ) → call_of_put k.put ≡ APut n → cause_of limit capacity (PutEnd Nothing) past ≡ None → Counted (PutEnd Nothing)
   put_nothing_counted limit n is e =
       let (enough, e1) = none_off _ _ _ e in
       elim (put_of k.put n is) [
-        | inl o ↦ (let (inside, is_put) = o in (kept (without n k.inside) Free k.take k.shut, inl (n, inside, is_put, (can_end n inside is_put enough, refl))))
-        | inr late ↦ (kept k.inside Free k.take k.shut, inr (n, late, refl))
+        | inl o ↦ (let (inside, is_put) = o in (kept (without (n - 0) k.inside) Free k.take k.shut, inl (n, inside, is_put, refl, tt, inl refl, (can_end n inside is_put enough, refl))))
+        | inr late ↦ (kept k.inside Free k.take k.shut, inr (n, late, inl refl, refl))
       ]
 
-  put_closed_counted : (limit n : ℕ) → call_of_put k.put ≡ APut n → cause_of limit capacity PutClosed past ≡ None → Counted PutClosed
+  put_closed_counted : (limit n : ℕ) → call_of_put k.put ≡ APut n → cause_of limit capacity (PutEnd Shut) past ≡ None → Counted (PutEnd Shut)
   put_closed_counted limit n is e = elim (put_of k.put n is) [
     | inl o ↦ (
-        let (inside, is_put) = o in both (Counted PutClosed) (has_ended (before_put past)) (none_on _ _ _ e).0 (as_put past k a (Offers n inside) is_put).1)
-    | inr late ↦ (kept k.inside Free k.take k.shut, (n, late, refl))
+        let (inside, is_put) = o in both (Counted (PutEnd Shut)) (has_ended (before_put past)) (none_on _ _ _ e).0 (as_put past k a (Offers n inside) is_put).1)
+    | inr late ↦ (kept k.inside Free k.take k.shut, inr (n, late, inr refl, refl))
   ]
 
-  items_counted : (limit : ℕ) (items : List ℕ) (why : Bool) (n : ℕ) → call_of_take k.take ≡ ATake n → 0 < length items → length items ≤ n → cause_of limit capacity (TakeItems items why) past ≡ None → Counted (TakeItems items why)
+  items_counted : (limit : ℕ) (items : List ℕ) (why : Bool) (n : ℕ) → call_of_take k.take ≡ ATake n → 0 < length items → length items ≤ n → cause_of limit capacity (TakeEnd (Passed items why)) past ≡ None → Counted (TakeEnd (Passed items why))
   items_counted limit items why n is some most e =
       let (inside, closed, is_take) = take_of k.take n is in
       let (not_told, e1) = none_off _ _ _ e in
@@ -402,15 +430,17 @@ module _ (capacity : Capacity) (past : List Event) (k : Kept) (a : Agrees past k
           inside,
           closed,
           is_take,
-          some,
-          most,
-          (no_more capacity past k a n inside closed (length items) why is_take).0 found,
-          next,
-          ((left_fit capacity past k a (length items)).0 e3, refl),
+          inl (
+            refl,
+            (some, most),
+            found_fewer inside closed items n why some ((no_more capacity past k a n inside closed (length items) why is_take).0 found),
+            next,
+            ((left_fit capacity past k a (length items)).0 e3, refl),
+          ),
         ),
       )
 
-  empty_counted : (n : ℕ) → call_of_take k.take ≡ ATake n → empty_cause capacity past ≡ None → Counted TakeEmpty
+  empty_counted : (n : ℕ) → call_of_take k.take ≡ ATake n → empty_cause capacity past ≡ None → Counted (TakeEnd Lacked)
   empty_counted n is e =
       let (inside, closed, is_take) = take_of k.take n is in
       let (not_told, e1) = none_off _ _ _ e in
@@ -422,13 +452,19 @@ module _ (capacity : Capacity) (past : List Event) (k : Kept) (a : Agrees past k
         (
           n,
           inside,
-          is_take ∙ ap (λ z. Waits n inside z) open',
-          (none_found capacity past k a n inside closed is_take).0 none,
-          ((left_fit capacity past k a 0).0 e3, refl),
+          closed,
+          is_take,
+          inl (
+            refl,
+            tt,
+            (λ l. (omega (arith, (none_found capacity past k a n inside closed is_take).0 none), λ _ c. both (0 < inside) closed c open')),
+            (k.inside, refl),
+            ((left_fit capacity past k a 0).0 e3, refl),
+          ),
         ),
       )
 
-  take_short_counted : (n : ℕ) → call_of_take k.take ≡ ATake n → 1 < n → take_short_cause capacity past ≡ None → Counted TakeShort
+  take_short_counted : (n : ℕ) → call_of_take k.take ≡ ATake n → 1 < n → take_short_cause capacity past ≡ None → Counted (TakeEnd Short)
   take_short_counted n is several e =
       let (inside, closed, is_take) = take_of k.take n is in
       let (not_told, e1) = none_off _ _ _ e in
@@ -440,22 +476,31 @@ module _ (capacity : Capacity) (past : List Event) (k : Kept) (a : Agrees past k
           inside,
           closed,
           is_take,
-          several,
-          (fewer_found capacity past k a n inside closed is_take (omega (arith, several))).0 fewer,
-          (drained capacity past k a n inside closed is_take not_told).0 found,
-          ((left_fit capacity past k a 0).0 e3, refl),
+          inl (
+            refl,
+            several,
+            (λ l. (
+              omega (arith, (fewer_found capacity past k a n inside closed is_take (omega (arith, several))).0 fewer),
+              λ _. (drained capacity past k a n inside closed is_take not_told).0 found,
+            )),
+            (k.inside, refl),
+            ((left_fit capacity past k a 0).0 e3, refl),
+          ),
         ),
       )
 
-  take_nothing_counted : (n : ℕ) → call_of_take k.take ≡ ATake n → not_taken_cause capacity 0 past ≡ None → Counted TakeNothing
+  take_nothing_counted : (n : ℕ) → call_of_take k.take ≡ ATake n → not_taken_cause capacity 0 past ≡ None → Counted (TakeEnd Nothing)
   take_nothing_counted n is e =
-      let (inside, closed, is_take) = take_of k.take n is in (kept (drop 0 k.inside) k.put Rests k.shut, (n, inside, closed, is_take, ((left_fit capacity past k a 0).0 e, refl)))
+      let (inside, closed, is_take) = take_of k.take n is in (
+        kept (drop 0 k.inside) k.put Rests k.shut,
+        (n, inside, closed, is_take, inl (refl, tt, (λ l. absurd (omega (arith, l))), (k.inside, refl), ((left_fit capacity past k a 0).0 e, refl))),
+      )
 
-  take_closed_counted : (limit n : ℕ) → call_of_take k.take ≡ ATake n → cause_of limit capacity TakeClosed past ≡ None → Counted TakeClosed
+  take_closed_counted : (limit n : ℕ) → call_of_take k.take ≡ ATake n → cause_of limit capacity (TakeEnd Shut) past ≡ None → Counted (TakeEnd Shut)
   take_closed_counted limit n is e =
       let (inside, closed, is_take) = take_of k.take n is in
       let (begun, e1) = none_on _ _ _ e in
-      (kept [] k.put Rests true, (n, inside, closed, is_take, (none_inside capacity past k a).0 e1, closing past k a begun, refl))
+      (kept [] k.put Rests true, (n, inside, closed, is_take, inr (refl, (none_inside capacity past k a).0 e1, closing past k a begun, refl)))
 
   -- ---- an event in turn that nothing contradicts can be counted
 
@@ -464,20 +509,20 @@ module _ (capacity : Capacity) (past : List Event) (k : Kept) (a : Agrees past k
     | inl g ↦ (kept k.inside (Late (length items)) k.take true, (free_of k.put free, some, inr (g, refl)))
     | inr g ↦ (kept (k.inside ++ items) (Offers (length items) (length k.inside)) k.take false, (free_of k.put free, some, inl (g, refl)))
   ]
-  counted limit (PutStored count why) next (n, is, some, most, m) e = stored_counted count why n some most is e
-  counted limit PutFull next (n, is, m) e = full_counted n is e
-  counted limit PutShort next (n, is, several, m) e = put_short_counted n is several e
-  counted limit PutNothing next (n, is, m) e = put_nothing_counted limit n is e
-  counted limit PutClosed next (n, is, m) e = put_closed_counted limit n is e
+  counted limit (PutEnd (Passed count why)) next (n, is, (some, most), m) e = stored_counted count why n some most is e
+  counted limit (PutEnd Lacked) next (n, is, w, m) e = full_counted n is e
+  counted limit (PutEnd Short) next (n, is, several, m) e = put_short_counted n is several e
+  counted limit (PutEnd Nothing) next (n, is, w, m) e = put_nothing_counted limit n is e
+  counted limit (PutEnd Shut) next (n, is, w, m) e = put_closed_counted limit n is e
   counted limit CloseBegin next (free, m) e = (kept k.inside (Closes k.shut) k.take k.shut, (free_of k.put free, refl))
   counted limit CloseEnd next (is, m) e = (kept k.inside Free k.take true, (let (again, g) = close_of k.put is in (again, g, refl)))
   counted limit (TakeBegin count) next (rests, some, m) e =
       (kept k.inside k.put (Waits count (length k.inside - offered_by k.put) k.shut) k.shut, (rest_of k.take rests, some, refl))
-  counted limit (TakeItems items why) next (n, is, some, most, m) e = items_counted limit items why n is some most e
-  counted limit TakeEmpty next (n, is, m) e = empty_counted n is e
-  counted limit TakeShort next (n, is, several, m) e = take_short_counted n is several e
-  counted limit TakeNothing next (n, is, m) e = take_nothing_counted n is e
-  counted limit TakeClosed next (n, is, m) e = take_closed_counted limit n is e
+  counted limit (TakeEnd (Passed items why)) next (n, is, (some, most), m) e = items_counted limit items why n is some most e
+  counted limit (TakeEnd Lacked) next (n, is, w, m) e = empty_counted n is e
+  counted limit (TakeEnd Short) next (n, is, several, m) e = take_short_counted n is several e
+  counted limit (TakeEnd Nothing) next (n, is, w, m) e = take_nothing_counted n is e
+  counted limit (TakeEnd Shut) next (n, is, w, m) e = take_closed_counted limit n is e
 
   -- something contradicts an event that cannot be counted
   pub spoken : (limit : ℕ) (event : Event) (next : Sides) → MovesSides (sides_of k.put k.take) event next → (Counted event → ⊥) → (cause : Cause) × (cause_of limit capacity event past ≡ Some cause)

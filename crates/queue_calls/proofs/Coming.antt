@@ -2,8 +2,8 @@
 use Rattle.std.proofs.Common.{◌≡◌, ℕ, zero, suc, ◌+◌, ◌-◌, ◌≤◌, Bool, true, false, if◌then◌else◌, List, [], ◌∷◌, ◌++◌, map, length, take, drop, refl, sym, ap, subst, ◌∙◌, arith, length-append, append-nil}
 use Rattle.std.proofs.lemmas.Bool.{or_parts}
 use Rattle.std.proofs.lemmas.List.{length-map, drop-map, drop-take, drop-drop}
-use Rattle.std.proofs.Math.Seq.{take-append-add}
-use Rattle.queue_calls.specs.Calls.{Event, PutBegin, PutStored, TakeItems}
+use Rattle.std.proofs.Math.Seq.{take-append-add, take-nil}
+use Rattle.queue_calls.specs.Calls.{Event, PutBegin, PutEnd, TakeEnd, Reply, passed}
 use Rattle.queue_calls.specs.Counting.{Kept}
 use Rattle.queue_calls.proofs.Agrees.{Agrees}
 use Rattle.queue_calls.specs.Reasons.{line_behind, has_ended, has_told, offered_at, stored_at, taken_at, offers, stored, taken, n_of, k_of, coming}
@@ -58,30 +58,32 @@ module _ (past : List Event) (k : Kept) (a : Agrees past k) where
       ap (λ z. drop (k_of past) z) (sym (take-append-add (stored past) (offers past) count) ∙ ap (λ z. take z (stored past ++ offers past)) same) ∙
       drop-take (k_of past) (length k.inside - (n - count)) (stored past ++ offers past)
 
-  pub some_stored :
-      (n inside count : ℕ) (why : Bool) → k.put ≡ Offers n inside → count ≤ n → n - count ≤ length k.inside → (left : List Offered) → left ≡ take (length k.inside - (n - count)) (coming past) →
-      coming (PutStored count why ∷ past) ≡ take (length k.inside - n) left ++ map (stored_at (line_behind past)) (drop (length k.inside - n) left)
-  some_stored n inside count why is few some left e =
+  pub put_ends :
+      (reply : Reply ℕ) (n inside : ℕ) → k.put ≡ Offers n inside → passed 0 reply ≤ n → n - passed 0 reply ≤ length k.inside → (left : List Offered) →
+      left ≡ take (length k.inside - (n - passed 0 reply)) (coming past) →
+      coming (PutEnd reply ∷ past) ≡ take (length k.inside - n) left ++ map (stored_at (line_behind past)) (drop (length k.inside - n) left)
+  put_ends reply n inside is few some left e =
       let f = as_put past k a (Offers n inside) is in
       let line = stored_at (line_behind past) in
       let rest : ℕ = length k.inside - n in
-      let H : List Offered → Type 0 = λ l. drop (k_of past) (stored past ++ map line (take count (offers past))) ≡ take rest l ++ map line (drop rest l) in
-      ap (λ z. drop (k_of past) z) (append-nil (stored past ++ map line (take count (offers past)))) ∙
-      subst H (left_over n inside count is few some ∙ sym e)
-      (changed line (stored past) (take count (offers past)) (k_of past) rest (omega (arith, long past k a, f.0)))
+      let new : List Offered = take (passed 0 reply) (offers past) in
+      let H : List Offered → Type 0 = λ l. drop (k_of past) (stored past ++ map line new) ≡ take rest l ++ map line (drop rest l) in
+      ap (λ z. drop (k_of past) z) (append-nil (stored past ++ map line new)) ∙
+      subst H (left_over n inside (passed 0 reply) is few some ∙ sym e) (changed line (stored past) new (k_of past) rest (omega (arith, long past k a, f.0)))
 
-  -- it ends with none stored: the entries that come next are then those that were stored
-  pub none_stored : (n inside : ℕ) → k.put ≡ Offers n inside → n ≤ length k.inside → drop (k_of past) (stored past ++ []) ≡ take (length k.inside - n) (coming past)
-  none_stored n inside is some =
-      let whole : n - 0 ≡ n = omega arith in
-      subst (λ z. drop (k_of past) (stored past ++ []) ≡ take (length k.inside - z) (coming past)) whole (left_over n inside 0 is (omega arith) (omega (arith, some)))
-
-  pub late_stored : (n : ℕ) → k.put ≡ Late n → drop (k_of past) (stored past ++ []) ≡ coming past
-  late_stored n is = ap (λ z. drop (k_of past) (stored past ++ z)) (sym (as_put past k a (Late n) is).0)
+  -- none of a put that began after a close is stored
+  pub late_ends : (reply : Reply ℕ) (n : ℕ) → k.put ≡ Late n → coming (PutEnd reply ∷ past) ≡ coming past
+  late_ends reply n is =
+      let none : offers past ≡ [] = (as_put past k a (Late n) is).0 in
+      let line = stored_at (line_behind past) in
+      ap (λ z. drop (k_of past) z)
+      (append-nil (stored past ++ map line (take (passed 0 reply) (offers past))) ∙
+      ap (λ z. stored past ++ z) (ap (λ z. map line (take (passed 0 reply) z)) none ∙ ap (map line) (take-nil (passed 0 reply)) ∙ sym none))
 
   -- the take under way ends with items
-  pub took : (items : List ℕ) (why : Bool) → coming (TakeItems items why ∷ past) ≡ drop (length items) (coming past)
-  took items why =
+  pub took : (reply : Reply (List ℕ)) → coming (TakeEnd reply ∷ past) ≡ drop (length (passed [] reply)) (coming past)
+  took reply =
+      let items : List ℕ = passed [] reply in
       let line = taken_at (line_behind past) in
-      let count : k_of (TakeItems items why ∷ past) ≡ k_of past + length items = omega (arith, length-append (taken past) (map line items), length-map items line) in
+      let count : k_of (TakeEnd reply ∷ past) ≡ k_of past + length items = omega (arith, length-append (taken past) (map line items), length-map items line) in
       ap (λ z. drop z (stored past ++ offers past)) count ∙ sym (drop-drop (length items) (k_of past) (stored past ++ offers past))

@@ -1,8 +1,8 @@
 -- Histories whose events can be counted are linearizable.
-use Rattle.std.proofs.Common.{◌≡◌, inl, inr, ℕ, Bool, true, false, List, [], ◌∷◌, ◌++◌, length, refl, sym, subst, append_assoc}
+use Rattle.std.proofs.Common.{◌≡◌, inl, inr, ℕ, Bool, true, false, List, [], ◌∷◌, ◌++◌, length, sym, subst, append_assoc}
 use Rattle.std.proofs.lemmas.List.{append-nil}
 use Rattle.queue_calls.specs.Queue.{Capacity}
-use Rattle.queue_calls.specs.Calls.{Event, PutBegin, PutStored, PutFull, PutShort, PutNothing, PutClosed, CloseBegin, CloseEnd, TakeBegin, TakeItems, TakeEmpty, TakeShort, TakeNothing, TakeClosed, IsLinearizable}
+use Rattle.queue_calls.specs.Calls.{Event, PutBegin, PutEnd, CloseBegin, CloseEnd, TakeBegin, TakeEnd, IsLinearizable}
 use Rattle.queue_calls.specs.declared.turns.PutTurn.{PutTurn}
 use Rattle.queue_calls.specs.declared.turns.PutTurn.TheVariants.{Free, Offers, Late, Closes}
 use Rattle.queue_calls.specs.declared.turns.TakeTurn.{TakeTurn}
@@ -11,10 +11,10 @@ use Rattle.queue_calls.specs.State.{Keeps}
 use Rattle.queue_calls.specs.Counting.{Kept, kept, Counts, AreCounted, CountedIsLinearizable}
 use Rattle.queue_calls.proofs.Keeping.{some}
 use Rattle.queue_calls.proofs.Ends.PutBegins.{put_begin, late_begin}
-use Rattle.queue_calls.proofs.Ends.PutEnds.{put_stored, put_full, put_short, put_nothing, put_closed, late_nothing}
+use Rattle.queue_calls.proofs.Ends.PutEnds.{put_ends, late_ends}
 use Rattle.queue_calls.proofs.Ends.Closing.{close_begin, close_end}
 use Rattle.queue_calls.proofs.Ends.TakeBegins.{take_begin, keeps_nothing}
-use Rattle.queue_calls.proofs.Ends.TakeEnds.{take_items, take_empty, take_short, take_nothing, take_closed}
+use Rattle.queue_calls.proofs.Ends.TakeEnds.{take_ends, take_closed}
 
 -- after a history this is kept
 abbrev pub Stands : Capacity → List Event → Kept → Type 0
@@ -47,45 +47,27 @@ module _ (capacity : Capacity) (h : List Event) (k : Kept) (j : Stands capacity 
         stands_as capacity (h ++ PutBegin items ∷ []) after (kept k.inside (Late (length items)) k.take true) b.1
         (late_begin capacity h k.inside items k.take (of_free true free b.0) items_come).0
   ]
-  counts_keeps (PutStored count why) after (offered, before, is, stored, few, lacks, ends) =
-      stands_as capacity (h ++ PutStored count why ∷ []) after _ ends.1
-      (put_stored capacity h k.inside k.take k.shut offered before (of_put (Offers offered before) is) count why stored few (λ tells l. inr (lacks tells l)) ends.0).0
-  counts_keeps PutFull after (offered, before, is, lacks, ends) =
-      stands_as capacity (h ++ PutFull ∷ []) after _ ends.1 (put_full capacity h k.inside k.take k.shut offered before (of_put (Offers offered before) is) (inr lacks) ends.0).0
-  counts_keeps PutShort after (offered, before, is, several, lacks, ends) =
-      stands_as capacity (h ++ PutShort ∷ []) after _ ends.1
-      (put_short capacity h k.inside k.take k.shut offered before (of_put (Offers offered before) is) several (inr lacks) ends.0).0
-  counts_keeps PutNothing after ends = elim ends [
-    | inl b ↦ (
-        let (offered, before, is, fit) = b in
-        stands_as capacity (h ++ PutNothing ∷ []) after _ fit.1 (put_nothing capacity h k.inside k.take k.shut offered before (of_put (Offers offered before) is) fit.0).0)
-    | inr b ↦ (
-        let (offered, is, e) = b in
-        stands_as capacity (h ++ PutNothing ∷ []) after _ e (late_nothing capacity h k.inside k.take k.shut offered (of_put (Late offered) is)).0)
+  counts_keeps (PutEnd reply) after ends = elim ends [
+    | inl (offered, before, is, open', within, lacks, fit) ↦
+        stands_as capacity (h ++ PutEnd reply ∷ []) after _ fit.1
+        (put_ends capacity h k.inside k.take k.shut offered before (of_put (Offers offered before) is) reply open' within lacks fit.0).0
+    | inr (offered, is, none, e) ↦
+        stands_as capacity (h ++ PutEnd reply ∷ []) after _ e (late_ends capacity h k.inside k.take k.shut offered (of_put (Late offered) is) reply none).0
   ]
-  counts_keeps PutClosed after (offered, is, e) =
-      stands_as capacity (h ++ PutClosed ∷ []) after _ e (put_closed capacity h k.inside k.take k.shut offered (of_put (Late offered) is)).0
   counts_keeps CloseBegin after (free, e) =
       stands_as capacity (h ++ CloseBegin ∷ []) after _ e (close_begin capacity h k.inside k.take k.shut (of_put Free free)).0
   counts_keeps CloseEnd after (again, is, e) =
       stands_as capacity (h ++ CloseEnd ∷ []) after _ e (close_end capacity h k.inside k.take again k.shut (of_put (Closes again) is)).0
   counts_keeps (TakeBegin wanted) after (rests, some_wanted, e) =
       stands_as capacity (h ++ TakeBegin wanted ∷ []) after _ e (take_begin capacity h k.inside k.shut wanted some_wanted k.put (of_take Rests rests)).0
-  counts_keeps (TakeItems items why) after (wanted, before, ended, is, items_come, few, lacks, next, ends) =
-      stands_as capacity (h ++ TakeItems items why ∷ []) after _ ends.1
-      (take_items capacity h k.put k.shut k.inside wanted before ended (of_take (Waits wanted before ended) is) items why items_come few lacks next ends.0).0
-  counts_keeps TakeEmpty after (wanted, before, is, none, ends) =
-      stands_as capacity (h ++ TakeEmpty ∷ []) after _ ends.1
-      (take_empty capacity h k.put k.shut k.inside wanted before false (of_take (Waits wanted before false) is) refl none ends.0).0
-  counts_keeps TakeShort after (wanted, before, ended, is, several, less, found, ends) =
-      stands_as capacity (h ++ TakeShort ∷ []) after _ ends.1
-      (take_short capacity h k.put k.shut k.inside wanted before ended (of_take (Waits wanted before ended) is) several less found ends.0).0
-  counts_keeps TakeNothing after (wanted, before, ended, is, ends) =
-      stands_as capacity (h ++ TakeNothing ∷ []) after _ ends.1
-      (take_nothing capacity h k.put k.shut k.inside wanted before ended (of_take (Waits wanted before ended) is) ends.0).0
-  counts_keeps TakeClosed after (wanted, before, ended, is, none, closed, e) =
-      stands_as capacity (h ++ TakeClosed ∷ []) after _ e
-      (take_closed capacity h k.put wanted before ended k.shut (of_none (Waits wanted before ended) is none) closed).0
+  counts_keeps (TakeEnd reply) after (wanted, before, ended, is, ends) = elim ends [
+    | inl (open', within, found, next, fit) ↦
+        stands_as capacity (h ++ TakeEnd reply ∷ []) after _ fit.1
+        (take_ends capacity h k.put k.shut k.inside wanted before ended (of_take (Waits wanted before ended) is) reply open' within found next fit.0).0
+    | inr (shuts, none, closed, e) ↦
+        stands_as capacity (h ++ TakeEnd reply ∷ []) after _ e
+        (take_closed capacity h k.put wanted before ended k.shut reply shuts (of_none (Waits wanted before ended) is none) closed).0
+  ]
 
 -- the history can lead somewhere
 pub stands_linear : (capacity : Capacity) (h : List Event) (k : Kept) → Stands capacity h k → IsLinearizable capacity h

@@ -1,14 +1,15 @@
 -- The events of a linearizable history can be counted.
-use Rattle.std.proofs.Common.{◌≡◌, ◌⊎◌, inl, inr, ℕ, zero, suc, ◌+◌, ◌-◌, ◌<◌, ◌≤◌, Bool, true, false, List, [], ◌∷◌, ◌++◌, length, drop, refl, sym, ap, subst, ◌∙◌, arith, length-append, append_assoc}
+use Rattle.std.proofs.Common.{◌≡◌, ◌⊎◌, inl, inr, ℕ, ◌+◌, ◌-◌, ◌≤◌, Bool, true, false, List, [], ◌∷◌, ◌++◌, length, drop, refl, sym, ap, subst, ◌∙◌, arith, length-append, append_assoc}
 use Rattle.std.proofs.lemmas.Bool.{cases_Bool}
-use Rattle.queue_calls.specs.Queue.{Capacity, LacksRoom, Queue, IsDrained}
-use Rattle.queue_calls.specs.Calls.{Event, PutBegin, PutStored, PutFull, PutShort, PutNothing, PutClosed, CloseBegin, CloseEnd, TakeBegin, TakeItems, TakeEmpty, TakeShort, TakeNothing, TakeClosed, Happens, Producer, Idle, Putting, FoundShut, Closing, Consumer, Resting, Taking, FoundClosed, short_of, Point, point, Leads, IsLinearizable}
+use Rattle.queue_calls.specs.Queue.{Capacity, Queue, IsDrained}
+use Rattle.queue_calls.specs.Calls.{Event, PutBegin, PutEnd, CloseBegin, CloseEnd, TakeBegin, TakeEnd, passed, CanReply, lacked_by, Happens, Producer, Idle, Putting, FoundShut, Closing, Consumer, Resting, Taking, FoundClosed, Point, point, Leads, IsLinearizable}
 use Rattle.queue_calls.specs.declared.turns.PutTurn.{PutTurn}
 use Rattle.queue_calls.specs.declared.turns.PutTurn.TheVariants.{Free, Offers, Late, Closes}
 use Rattle.queue_calls.specs.declared.turns.TakeTurn.{TakeTurn}
 use Rattle.queue_calls.specs.declared.turns.TakeTurn.TheVariants.{Rests, Waits}
 use Rattle.queue_calls.specs.State.{taken_by, left_by, MayLack, MayFindFewer, FitsPut, FitsTake, Describes, offered_by, asked_by, IsSoundPut, AreNext, CanEndPut, CanEndTake}
-use Rattle.queue_calls.specs.Counting.{Kept, kept, without, Counts, AreCounted, CountsAreExact}
+use Rattle.queue_calls.specs.Counting.{Kept, kept, without, FoundFewer, Counts, AreCounted, CountsAreExact}
+use Rattle.queue_calls.proofs.Replies.{none_is, shut_is}
 use Rattle.queue_calls.proofs.Rooms.{holds_fewer}
 use Rattle.queue_calls.proofs.Points.{last_event, beginning}
 use Rattle.queue_calls.proofs.Effects.{few_left}
@@ -18,16 +19,9 @@ use Rattle.queue_calls.proofs.Ends.TakeBegins.{keeps_nothing}
 use Rattle.queue_calls.proofs.Ends.TakeEnds.{closed_left}
 use Rattle.queue_calls.proofs.CountedHistories.{Stands, counts_keeps, counted_is_linearizable}
 
--- the reason found, for a put that left some of its items, and for a take that asked for more than it took
-pub lacks_room : (capacity : Capacity) (before count : ℕ) → 0 < count → MayLack capacity before count → LacksRoom capacity before count
-lacks_room capacity before count l f = elim f [ inl e ↦ absurd (omega (arith, e, l)) | inr g ↦ g ]
-
-finds_fewer : (before count : ℕ) (ended : Bool) → 0 < count → MayFindFewer before ended count → (before < count) × (ended ≡ true → 0 < before)
-finds_fewer before count ended l f = elim f [ inl e ↦ absurd (omega (arith, e, l)) | inr g ↦ g ]
-
-pub short_of_more : (count left : ℕ) → 0 < left → short_of true count left ≡ suc count
-short_of_more count zero l = absurd (omega (arith, l))
-short_of_more count (suc left) l = refl
+-- what a take found, if it reports a reason
+finds_fewer : (before done lacked : ℕ) (ended : Bool) → MayFindFewer before ended lacked → FoundFewer before ended done lacked
+finds_fewer before done lacked ended f l = elim f [ inl e ↦ absurd (omega (arith, e, l)) | inr g ↦ (g.0, λ none. g.1) ]
 
 -- what a put under way implies about what is kept: it began before a close had ended, or after
 abbrev Tells : Capacity → List ℕ → PutTurn → TakeTurn → (lacked done : ℕ) → List ℕ → Type 0
@@ -118,16 +112,6 @@ module _ (capacity : Capacity) (k : Kept) (sound : IsSoundPut (length k.inside) 
   ends_put : (rest left : ℕ) → left ≡ rest → CanEndPut capacity (length k.inside) (asked_by k.take) left → CanEndPut capacity (length k.inside) (asked_by k.take) rest
   ends_put rest left e f = let F : ℕ → Type 0 = λ z. CanEndPut capacity (length k.inside) (asked_by k.take) z in subst F e f
 
-  -- a take that took none ends
-  ends_none :
-      (lacked left : ℕ) → s.consumer ≡ Taking lacked [] left →
-      (before : ℕ) × (ended : Bool) × (k.take ≡ Waits left before ended) × MayFindFewer before ended lacked × CanEndTake capacity (length k.inside) (offered_by k.put) 0
-  ends_none lacked left e =
-      let d' = as_take (Taking lacked [] left) e in
-      let (wanted, before, ended, is, sum, fewer) = taking_tells k.take s.queue lacked [] left d'.consumer in
-      let same : wanted ≡ left = omega (arith, sum) in
-      (before, ended, is ∙ ap (λ z. Waits z before ended) same, fewer, (can_end_take capacity k.inside k.put k.take k.shut s.queue s.producer lacked [] left d').1)
-
   pub leads_counts : (event : Event) → Leads capacity s (Happens event) t → CanCount event
   leads_counts (PutBegin items) m =
       let (ep, some, ep') = m.producer in
@@ -135,60 +119,30 @@ module _ (capacity : Capacity) (k : Kept) (sound : IsSoundPut (length k.inside) 
         | inl e ↦ (kept k.inside (Late (length items)) k.take true, (free ep, some, inr (e, refl)))
         | inr e ↦ (kept (k.inside ++ items) (Offers (length items) (length k.inside)) k.take false, (free ep, some, inl (e, refl)))
       ]
-  leads_counts (PutStored count why) m =
-      let (left, some, ep, ep') = m.producer in
-      elim (tells (short_of why count (length left)) count left ep) [
-        | inl b ↦ (
-            let (offered, before, is, sum, lacks, fits) = b in
-            let F : ℕ → Type 0 = λ z. MayLack capacity before z in
-            let reason : why ≡ true → count < offered → LacksRoom capacity before (suc count) =
-            λ says l. lacks_room capacity before (suc count) (omega arith)
-            (subst F (ap (λ z. short_of z count (length left)) says ∙ short_of_more count (length left) (omega (arith, l, sum))) lacks) in (
-              kept (without (offered - count) k.inside) Free k.take k.shut,
-              (offered, before, is, some, omega (arith, sum), reason, (ends_put (offered - count) (length left) (omega (arith, sum)) fits, refl)),
-            ))
-        | inr b ↦ (let (offered, is, none, nothing) = b in absurd (omega (arith, nothing, some)))
-      ]
-  leads_counts PutFull m =
-      let (items, ep, ep') = m.producer in
-      elim (tells 1 0 items ep) [
-        | inl b ↦ (
-            let (offered, before, is, sum, lacks, fits) = b in (
-              kept (without offered k.inside) Free k.take k.shut,
-              (offered, before, is, lacks_room capacity before 1 (omega arith) lacks, (ends_put offered (length items) (omega (arith, sum)) fits, refl)),
-            ))
-        | inr b ↦ (let (offered, is, none, nothing) = b in absurd (omega (arith, none)))
-      ]
-  leads_counts PutShort m =
-      let (items, several, ep, ep') = m.producer in
-      elim (tells (length items) 0 items ep) [
-        | inl b ↦ (
-            let (offered, before, is, sum, lacks, fits) = b in
-            let same : length items ≡ offered = omega (arith, sum) in
-            let F : ℕ → Type 0 = λ z. MayLack capacity before z in (
-              kept (without offered k.inside) Free k.take k.shut,
-              (
-                offered,
-                before,
-                is,
-                omega (arith, several, same),
-                lacks_room capacity before offered (omega (arith, several, same)) (subst F same lacks),
-                (ends_put offered (length items) same fits, refl),
-              ),
-            ))
-        | inr b ↦ (let (offered, is, none, nothing) = b in absurd (omega (arith, none, several)))
-      ]
-  leads_counts PutNothing m =
-      let (items, ep, ep') = m.producer in
-      elim (tells 0 0 items ep) [
-        | inl b ↦ (
-            let (offered, before, is, sum, lacks, fits) = b in
-            (kept (without offered k.inside) Free k.take k.shut, inl (offered, before, is, (ends_put offered (length items) (omega (arith, sum)) fits, refl))))
-        | inr b ↦ (let (offered, is, none, nothing) = b in (kept k.inside Free k.take k.shut, inr (offered, is, refl)))
-      ]
-  leads_counts PutClosed m =
-      let (offered, is) = shut_tells capacity k.inside k.take k.shut s.queue k.put s.queue.closed (as_put FoundShut m.producer.0).producer in
-      (kept k.inside Free k.take k.shut, (offered, is, refl))
+  leads_counts (PutEnd reply) m = elim m.producer.0 [
+    | inl (open', left, within, ep) ↦ (
+        let done : ℕ = passed 0 reply in
+        elim (tells (lacked_by reply done (length left)) done left ep) [
+          | inl (offered, before, is, sum, lacks, fits) ↦ (
+              let rest : length left ≡ offered - done = omega (arith, sum) in (
+                kept (without (offered - done) k.inside) Free k.take k.shut,
+                inl (
+                  offered,
+                  before,
+                  is,
+                  open',
+                  subst (λ z. CanReply reply done z) sum within,
+                  subst (λ z. MayLack capacity before (lacked_by reply done z)) rest lacks,
+                  (ends_put (offered - done) (length left) rest fits, refl),
+                ),
+              ))
+          | inr (offered, is, none, nothing) ↦
+              (kept k.inside Free k.take k.shut, inr (offered, is, none_is reply (done + length left) (length left) (omega arith) within none nothing, refl))
+        ])
+    | inr (shuts, ep) ↦ (
+        let (offered, is) = shut_tells capacity k.inside k.take k.shut s.queue k.put s.queue.closed (as_put FoundShut ep).producer in
+        (kept k.inside Free k.take k.shut, inr (offered, is, inr (shut_is reply shuts), refl)))
+  ]
   leads_counts CloseBegin m = (kept k.inside (Closes k.shut) k.take k.shut, (free m.producer.0, refl))
   leads_counts CloseEnd m =
       let (again, is) = closing_tells capacity k.inside k.take k.shut s.queue k.put true s.queue.closed (as_put (Closing true) m.producer.0).producer in
@@ -198,40 +152,36 @@ module _ (capacity : Capacity) (k : Kept) (sound : IsSoundPut (length k.inside) 
         kept k.inside k.put (Waits wanted (length k.inside - offered_by k.put) k.shut) k.shut,
         (resting_tells k.take s.queue (as_take Resting ec).consumer, some, refl),
       )
-  leads_counts (TakeItems items why) m =
-      let (left, some, ec, ec') = m.consumer in
-      let d' = as_take (Taking (short_of why (length items) left) items left) ec in
-      let (wanted, before, ended, is, sum, fewer) = taking_tells k.take s.queue (short_of why (length items) left) items left d'.consumer in
-      let (next, fits) = can_end_take capacity k.inside k.put k.take k.shut s.queue s.producer (short_of why (length items) left) items left d' in
-      let F : ℕ → Type 0 = λ z. MayFindFewer before ended z in
-      let reason : why ≡ true → length items < wanted → before ≤ length items =
-      λ says l.
-      let (less, _) = finds_fewer before (suc (length items)) ended (omega arith)
-      (subst F (ap (λ z. short_of z (length items) left) says ∙ short_of_more (length items) left (omega (arith, l, sum))) fewer) in omega (arith, less) in
-      (kept (drop (length items) k.inside) k.put Rests k.shut, (wanted, before, ended, is, some, omega (arith, sum), reason, next, (fits, refl)))
-  leads_counts TakeEmpty m =
-      let (wanted, ec, ec') = m.consumer in
-      let (before, ended, is, fewer, fits) = ends_none 1 wanted ec in
-      let (less, found) = finds_fewer before 1 ended (omega arith) fewer in
-      elim (cases_Bool ended) [
-        | inl e ↦ absurd (omega (arith, less, found e))
-        | inr e ↦ (kept (drop 0 k.inside) k.put Rests k.shut, (wanted, before, is ∙ ap (λ z. Waits wanted before z) e, omega (arith, less), (fits, refl)))
-      ]
-  leads_counts TakeShort m =
-      let (wanted, several, ec, ec') = m.consumer in
-      let (before, ended, is, fewer, fits) = ends_none wanted wanted ec in
-      let (less, found) = finds_fewer before wanted ended (omega (arith, several)) fewer in
-      (kept (drop 0 k.inside) k.put Rests k.shut, (wanted, before, ended, is, several, less, found, (fits, refl)))
-  leads_counts TakeNothing m =
-      let (wanted, ec, ec') = m.consumer in
-      let (before, ended, is, fewer, fits) = ends_none 0 wanted ec in
-      (kept (drop 0 k.inside) k.put Rests k.shut, (wanted, before, ended, is, (fits, refl)))
-  leads_counts TakeClosed m =
-      let d' = as_take FoundClosed m.consumer.0 in
-      let (wanted, before, ended, is, drained) = drained_tells k.take s.queue d'.consumer in
-      let (left, begun) = closed_left capacity k.shut s.queue.closed k.put s.producer (length k.inside) sound d'.producer drained.1 in
-      let empty : k.inside ≡ [] = d'.items ∙ (ap (λ z. z ++ left_by k.put s.producer) drained.0 ∙ left) in
-      (kept [] k.put Rests true, (wanted, before, ended, is, empty, begun, refl))
+  leads_counts (TakeEnd reply) m = elim m.consumer.0 [
+    | inl (open', left, within, ec) ↦ (
+        let took : List ℕ = passed [] reply in
+        let lacked : ℕ = lacked_by reply (length took) left in
+        let d' = as_take (Taking lacked took left) ec in
+        let (wanted, before, ended, is, sum, fewer) = taking_tells k.take s.queue lacked took left d'.consumer in
+        let (next, fits) = can_end_take capacity k.inside k.put k.take k.shut s.queue s.producer lacked took left d' in
+        let rest : left ≡ wanted - length took = omega (arith, sum) in (
+          kept (drop (length took) k.inside) k.put Rests k.shut,
+          (
+            wanted,
+            before,
+            ended,
+            is,
+            inl (
+              open',
+              subst (λ z. CanReply reply (length took) z) sum within,
+              subst (λ z. FoundFewer before ended (length took) (lacked_by reply (length took) z)) rest (finds_fewer before (length took) lacked ended fewer),
+              next,
+              (fits, refl),
+            ),
+          ),
+        ))
+    | inr (shuts, ec) ↦ (
+        let d' = as_take FoundClosed ec in
+        let (wanted, before, ended, is, drained) = drained_tells k.take s.queue d'.consumer in
+        let (left, begun) = closed_left capacity k.shut s.queue.closed k.put s.producer (length k.inside) sound d'.producer drained.1 in
+        let empty : k.inside ≡ [] = d'.items ∙ (ap (λ z. z ++ left_by k.put s.producer) drained.0 ∙ left) in
+        (kept [] k.put Rests true, (wanted, before, ended, is, inr (shuts, empty, begun, refl))))
+  ]
 
 -- the last event of a linearizable history leads from a point that is described
 abbrev LeadsOn : Capacity → Kept → Event → Type 0

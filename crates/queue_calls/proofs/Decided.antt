@@ -1,11 +1,11 @@
 -- What follows from an auditor's decision: it reads the event.
-use Rattle.std.proofs.Common.{◌≡◌, ◌∙◌, ap, ℕ, false, List, [], ◌∷◌, ◌++◌, Result, Ok, Err, sym, subst}
+use Rattle.std.proofs.Common.{◌≡◌, ℕ, false, List, [], ◌∷◌, ◌++◌, Result, Ok, Err, sym, subst}
 use Rattle.queue_calls.specs.Queue.{Capacity}
 use Rattle.queue_calls.specs.Calls.{Event}
 use Rattle.queue_calls.specs.InTurn.{NoCall, sides}
 use Rattle.queue_calls.specs.State.{Keeps, sides_of}
 use Rattle.queue_calls.specs.Audits.{Audits, Reads, RefusesEvent, HasMoreItems}
-use Rattle.queue_calls.specs.Counting.{Kept, kept, kept_by}
+use Rattle.queue_calls.specs.Counting.{Kept, kept_by}
 use Rattle.queue_calls.specs.Deciding.{Decides, RefusesCount}
 use Rattle.queue_calls.specs.Told.{meant}
 use Rattle.queue_calls.specs.declared.auditors.CallAuditor.{CallAuditor}
@@ -18,14 +18,6 @@ use Rattle.queue_calls.proofs.Keeping.{turn_away}
 use Rattle.queue_calls.proofs.CountedHistories.{Stands, counts_keeps, stands_linear}
 use Rattle.queue_calls.proofs.CountsFollow.{leads_on, leads_counts}
 use Rattle.queue_calls.proofs.FullLists.{more_items}
-
--- what an auditor keeps, if its parts are those of another
-pub kept_as :
-    {Q E : Type 0} (items : Q → List ℕ) (old new : CallAuditor Q E) → items new.inside ≡ items old.inside → new.put ≡ old.put → new.take ≡ old.take → new.shut ≡ old.shut →
-    kept_by items new ≡ kept_by items old
-kept_as items old new inside put take shut =
-    ap (λ z. kept z new.put new.take new.shut) inside ∙
-    (ap (λ z. kept (items old.inside) z new.take new.shut) put ∙ (ap (λ z. kept (items old.inside) old.put z new.shut) take ∙ ap (λ z. kept (items old.inside) old.put old.take z) shut))
 
 -- what is refused, for a history after which this is kept
 refuses : (room : ℕ) (capacity : Capacity) (h : List Event) (k : Kept) (event : Event) (fault : Fault) → Stands capacity h k → RefusesCount room capacity k event fault → RefusesEvent room fault capacity h event

@@ -1,7 +1,6 @@
 -- What starts and ends of calls do to what an auditor keeps.
 pub mod Batches
 pub mod Closing
-pub mod EndLemmas
 pub mod PutBegins
 pub mod PutEnds
 pub mod TakeBegins

@@ -1,7 +1,7 @@
 -- Operations that come one after the other at a queue, and some that do not; and what is counted in pasts, the last event first.
 use Rattle.std.proofs.Common.{◌≡◌, true, false, [], ◌∷◌, length, refl, ap, arith}
 use Rattle.queue_calls.specs.Queue.{Unbounded, Between, exactly, Enqueue, FindNoRoom, FindFull, FindShut, Close, Dequeue, FindFewer, FindEmpty, FindClosed, Queue, queue, IsLegal}
-use Rattle.queue_calls.specs.Calls.{PutBegin, PutStored, TakeBegin, TakeItems}
+use Rattle.queue_calls.specs.Calls.{PutBegin, PutEnd, TakeBegin, TakeEnd, Passed}
 use Rattle.queue_calls.specs.Reporting.{begun, full_ends, overlapped, under_way}
 
 -- these come one after the other at a queue of capacity 1
@@ -56,20 +56,20 @@ drained r = r.1.1 (refl, refl)
 
 -- a put within a take: both calls have overlapped one of the other side; a second put within the same take: three have; takes that come
 -- after a put: none have
-within_one : overlapped (PutStored 1 true ∷ PutBegin (7 ∷ []) ∷ TakeBegin 1 ∷ []) ≡ 2
+within_one : overlapped (PutEnd (Passed 1 true) ∷ PutBegin (7 ∷ []) ∷ TakeBegin 1 ∷ []) ≡ 2
 within_one = refl
 
-within_both : overlapped (PutBegin (8 ∷ []) ∷ PutStored 1 true ∷ PutBegin (7 ∷ []) ∷ TakeBegin 1 ∷ []) ≡ 3
+within_both : overlapped (PutBegin (8 ∷ []) ∷ PutEnd (Passed 1 true) ∷ PutBegin (7 ∷ []) ∷ TakeBegin 1 ∷ []) ≡ 3
 within_both = refl
 
-one_behind : overlapped (TakeBegin 1 ∷ TakeItems (7 ∷ []) true ∷ TakeBegin 1 ∷ PutStored 1 true ∷ PutBegin (7 ∷ []) ∷ []) ≡ 0
+one_behind : overlapped (TakeBegin 1 ∷ TakeEnd (Passed (7 ∷ []) true) ∷ TakeBegin 1 ∷ PutEnd (Passed 1 true) ∷ PutBegin (7 ∷ []) ∷ []) ≡ 0
 one_behind = refl
 
 -- a put of which only some items were stored counts as one that ended full
-some_stored : full_ends (PutStored 1 true ∷ PutBegin (7 ∷ 8 ∷ []) ∷ []) ≡ 1
+some_stored : full_ends (PutEnd (Passed 1 true) ∷ PutBegin (7 ∷ 8 ∷ []) ∷ []) ≡ 1
 some_stored = refl
 
-all_stored : full_ends (PutStored 2 true ∷ PutBegin (7 ∷ 8 ∷ []) ∷ []) ≡ 0
+all_stored : full_ends (PutEnd (Passed 2 true) ∷ PutBegin (7 ∷ 8 ∷ []) ∷ []) ≡ 0
 all_stored = refl
 
 -- two calls that have begun and not ended

@@ -1,11 +1,12 @@
 -- What a witness remembers after one more event.
-use Rattle.std.proofs.Common.{◌≡◌, inl, inr, ℕ, zero, suc, ◌+◌, ◌-◌, ◌≤◌, Bool, true, false, if◌then◌else◌, Option, Some, None, List, [], ◌∷◌, ◌++◌, map, length, take, drop, reverse, refl, sym, ap, subst, ◌∙◌, arith, length-append, append-nil}
+use Rattle.std.proofs.Common.{◌≡◌, inl, inr, ℕ, zero, suc, ◌+◌, ◌-◌, ◌<◌, ◌≤◌, Bool, true, false, if◌then◌else◌, Option, Some, None, List, [], ◌∷◌, ◌++◌, map, length, take, drop, reverse, refl, sym, ap, ap₂, subst, ◌∙◌, arith, length-append, append-nil}
 use Rattle.std.proofs.lemmas.List.{length-map, length-reverse, length-take-le, take_all}
+use Rattle.std.proofs.Math.Seq.{drop-length, take-length}
 use Rattle.std.specs.Option.{option_or}
 use Rattle.queue_calls.specs.Queue.{Capacity}
-use Rattle.queue_calls.specs.Calls.{Event, PutBegin, PutStored, PutFull, PutShort, PutNothing, PutClosed, CloseEnd, TakeItems, TakeClosed, IsLinearizable}
+use Rattle.queue_calls.specs.Calls.{Event, PutBegin, PutEnd, TakeEnd, Reply, passed, CanReply, IsLinearizable}
 use Rattle.queue_calls.specs.Audits.{HasMoreItems, RefusesEvent}
-use Rattle.queue_calls.specs.Counting.{Kept, kept, without, Counts, CountTo}
+use Rattle.queue_calls.specs.Counting.{Kept, kept, Counts, CountTo}
 use Rattle.queue_calls.specs.Insides.{Moves}
 use Rattle.queue_calls.specs.Noting.{all_got, items_got}
 use Rattle.queue_calls.specs.Reasons.{before_put, before_stored, coming, ended_line, has_ended, has_told, items_of, k_of, last_of, last_taken, line_behind, offered_at, stored_at, taken, taken_at, told_closed_line}
@@ -17,14 +18,15 @@ use Rattle.call_causes.specs.declared.entries.Taken.{Taken}
 use Rattle.queue_calls.specs.declared.faults.Fault.{Fault}
 use Rattle.queue_calls.specs.declared.faults.Fault.TheVariants.{OutOfTurn, NotLinearizable, OutOfMemory}
 use Rattle.queue_calls.specs.declared.turns.PutTurn.{PutTurn}
-use Rattle.queue_calls.specs.declared.turns.PutTurn.TheVariants.{Free, Offers}
+use Rattle.queue_calls.specs.declared.turns.PutTurn.TheVariants.{Free}
 use Rattle.queue_calls.specs.declared.turns.TakeTurn.{TakeTurn}
 use Rattle.queue_calls.specs.declared.turns.TakeTurn.TheVariants.{Rests}
 use Rattle.queue_calls.specs.declared.witnesses.Witness.{Witness}
 use Rattle.queue_calls.proofs.Agrees.{Agrees}
 use Rattle.queue_calls.proofs.Agreeing.{long_coming, turned, turned_behind, items_stored}
-use Rattle.queue_calls.proofs.Coming.{late_begins, late_stored, none_stored, open_begins, some_stored, took}
+use Rattle.queue_calls.proofs.Coming.{late_begins, late_ends, open_begins, put_ends, took}
 use Rattle.queue_calls.proofs.Remembering.{agrees_of, count_more, kept_of, stands}
+use Rattle.queue_calls.proofs.Replies.{few, none_passed, stored_line_on}
 
 -- ---- entries
 
@@ -59,18 +61,19 @@ marked_behind (suc n) line (x ∷ entries) = ap (λ z. x.item ∷ z) (marked_beh
 pub mark_items : (line count : ℕ) (entries : List Offered) → items_of (mark_last line count entries) ≡ items_of entries
 mark_items line count entries = marked_behind (length entries - count) line entries
 
+-- nor does one that stores none change an entry
+mark_none : (line : ℕ) (entries : List Offered) → mark_last line 0 entries ≡ entries
+mark_none line entries =
+    let all : length entries - 0 ≡ length entries = omega arith in
+    ap (λ z. take z entries ++ map (stored_at line) (drop z entries)) all ∙
+    ap₂ (λ x y. x ++ map (stored_at line) y) (take-length entries) (drop-length entries) ∙ append-nil entries
+
 module _ (past : List Event) (k : Kept) (a : Agrees past k) (capacity : Capacity) where
   same_long : (entries : List Offered) → entries ≡ coming past → length entries ≡ length k.inside
   same_long entries e = ap length e ∙ long_coming past k a
 
   abbrev MovesSo : Event → List Offered → List Offered → Type 0
   MovesSo event entries after = Moves (offered_at (line_behind past)) k.shut event entries after
-
-  -- a put ends with none stored
-  none_left : (n inside : ℕ) (entries left : List Offered) (after : List ℕ) → k.put ≡ Offers n inside → n ≤ length k.inside → after ≡ without n k.inside → entries ≡ coming past → items_of left ≡ after →
-      (kept : ℕ) × (left ≡ take kept entries) → left ≡ take (length k.inside - n) (coming past)
-  none_left n inside entries left after is few e come are (m, moves) =
-      first_ones m (length k.inside - n) entries left k.inside moves (are ∙ e) (same_long entries come) (omega arith) ∙ ap (λ z. take (length k.inside - n) z) come
 
   -- all is left
   all_left : (entries left : List Offered) → entries ≡ coming past → items_of left ≡ k.inside → (kept : ℕ) × (left ≡ take kept entries) → left ≡ coming past
@@ -82,42 +85,44 @@ module _ (past : List Event) (k : Kept) (a : Agrees past k) (capacity : Capacity
   inside_is : (after told : Kept) → after ≡ told → after.inside ≡ told.inside
   inside_is after told e = ap (λ z. z.inside) e
 
-  -- what comes next after an event, except for the end of a put that stored some
+  -- what comes next after an event, except for the end of a put
   pub moved :
       (event : Event) (after : Kept) (entries left : List Offered) → entries ≡ coming past → items_of left ≡ after.inside → Counts capacity k event after → MovesSo event entries left →
-      ((count : ℕ) (why : Bool) → event ≡ PutStored count why → ⊥) → left ≡ coming (event ∷ past)
+      ((reply : Reply ℕ) → event ≡ PutEnd reply → ⊥) → left ≡ coming (event ∷ past)
   moved (PutBegin items) after entries left come are (free, some, begins) moves other = elim begins [
     | inl b ↦
         moves ∙ ap (λ z. if z then entries else entries ++ map (offered_at (line_behind past)) items) b.0 ∙ ap (λ z. z ++ map (offered_at (line_behind past)) items) come ∙
         sym (open_begins past k a items free b.0)
     | inr b ↦ moves ∙ ap (λ z. if z then entries else entries ++ map (offered_at (line_behind past)) items) b.0 ∙ come ∙ sym (late_begins past k a items free b.0)
   ]
-  moved (PutStored count why) after entries left come are c moves other = absurd (other count why refl)
-  moved PutFull after entries left come are (n, inside, is, lacks, ends) moves other =
-      none_left n inside entries left after.inside is ends.0.0 (inside_is after _ ends.1) come are moves ∙ sym (none_stored past k a n inside is ends.0.0)
-  moved PutShort after entries left come are (n, inside, is, several, lacks, ends) moves other =
-      none_left n inside entries left after.inside is ends.0.0 (inside_is after _ ends.1) come are moves ∙ sym (none_stored past k a n inside is ends.0.0)
-  moved PutNothing after entries left come are c moves other = elim c [
-    | inl b ↦ (
-        let (n, inside, is, ends) = b in
-        none_left n inside entries left after.inside is ends.0.0 (inside_is after _ ends.1) come are moves ∙ sym (none_stored past k a n inside is ends.0.0))
-    | inr b ↦ (let (n, is, e) = b in all_left entries left come (are ∙ inside_is after _ e) moves ∙ sym (late_stored past k a n is))
-  ]
-  moved PutClosed after entries left come are (n, is, e) moves other = moves ∙ come ∙ sym (late_stored past k a n is)
-  moved (TakeItems items why) after entries left come are c moves other = moves ∙ ap (λ z. drop (length items) z) come ∙ sym (took past k a items why)
+  moved (PutEnd reply) after entries left come are c moves other = absurd (other reply refl)
+  moved (TakeEnd reply) after entries left come are c moves other = moves ∙ ap (λ z. drop (length (passed [] reply)) z) come ∙ sym (took past k a reply)
   moved event after entries left come are c moves other = moves ∙ come
 
-  -- and after that one, with its line written
-  pub moved_stored :
-      (count : ℕ) (why : Bool) (after : Kept) (entries left : List Offered) → entries ≡ coming past → items_of left ≡ after.inside → Counts capacity k (PutStored count why) after →
-      MovesSo (PutStored count why) entries left → mark_last (line_behind past) count left ≡ coming (PutStored count why ∷ past)
-  moved_stored count why after entries left come are (n, inside, is, some, few, lacks, ends) (m, moves) =
-      let rest : ℕ = length k.inside - (n - count) in
-      let left_is : left ≡ take rest (coming past) =
-      first_ones m rest entries left k.inside moves (are ∙ inside_is after _ ends.1) (same_long entries come) (omega arith) ∙ ap (λ z. take rest z) come in
-      let long : length left ≡ rest = ap length left_is ∙ length-take-le rest (coming past) (omega (arith, long_coming past k a)) in
-      let place : length left - count ≡ length k.inside - n = omega (arith, long, few, ends.0.0) in
-      ap (λ z. take z left ++ map (stored_at (line_behind past)) (drop z left)) place ∙ sym (some_stored past k a n inside count why is few ends.0.0 left left_is)
+  -- and after that one, with the line of what it stored written
+  pub moved_put :
+      (reply : Reply ℕ) (after : Kept) (entries left : List Offered) → entries ≡ coming past → items_of left ≡ after.inside → Counts capacity k (PutEnd reply) after → MovesSo (PutEnd reply) entries left →
+      mark_last (line_behind past) (passed 0 reply) left ≡ coming (PutEnd reply ∷ past)
+  moved_put reply after entries left come are c (same, m, moves) = elim c [
+    | inl (n, inside, is, open', within, lacks, ends) ↦ (
+        let count : ℕ = passed 0 reply in
+        let fits : count ≤ n = few (λ z. z) 0 reply n refl within in
+        let rest : ℕ = length k.inside - (n - count) in
+        let left_is : left ≡ take rest (coming past) =
+        first_ones m rest entries left k.inside moves (are ∙ inside_is after _ ends.1) (same_long entries come) (omega arith) ∙ ap (λ z. take rest z) come in
+        let long : length left ≡ rest = ap length left_is ∙ length-take-le rest (coming past) (omega (arith, long_coming past k a)) in
+        let place : length left - count ≡ length k.inside - n = omega (arith, long, fits, ends.0.0) in
+        ap (λ z. take z left ++ map (stored_at (line_behind past)) (drop z left)) place ∙ sym (put_ends past k a reply n inside is fits ends.0.0 left left_is))
+    | inr (n, is, none, e) ↦
+        ap (λ z. mark_last (line_behind past) z left) (none_passed reply none) ∙ mark_none (line_behind past) left ∙
+        all_left entries left come (are ∙ inside_is after _ e) (m, moves) ∙ sym (late_ends past k a reply n is)
+  ]
+
+  counted_within : (reply : Reply ℕ) (after : Kept) → Counts capacity k (PutEnd reply) after → (most : ℕ) × CanReply reply (passed 0 reply) most
+  counted_within reply after c = elim c [
+    | inl (n, inside, is, open', within, lacks, ends) ↦ (n, within)
+    | inr (n, is, none, e) ↦ (n, elim none [ inl g ↦ subst (λ z. CanReply z (passed 0 z) n) (sym g) tt | inr g ↦ subst (λ z. CanReply z (passed 0 z) n) (sym g) tt ])
+  ]
 
 -- ---- what is remembered
 
@@ -160,15 +165,6 @@ pub taken_kept :
     {S O T N B : Type 0} (last : T → List Taken) (w next : Witness S O T N B) (all : List Taken) → KeepsTaken w next → last w.taken ≡ last_of w.limit all → last next.taken ≡ last_of next.limit all
 taken_kept last w next all t is = ap last t.0 ∙ is ∙ ap (λ n. last_of n all) (sym t.1)
 
--- an event whose line no cause reports, and that takes nothing
-abbrev pub IsQuiet : Event → Type 0
-IsQuiet (PutBegin items) = ⊥
-IsQuiet (PutStored count why) = ⊥
-IsQuiet CloseEnd = ⊥
-IsQuiet (TakeItems items why) = ⊥
-IsQuiet TakeClosed = ⊥
-IsQuiet _ = Unit {0}
-
 -- the line of the first of such events
 pub first_line : (b : Bool) (line this now : ℕ) (old : Option ℕ) → old ≡ (if b then Some line else None) → this ≡ now → option_or old (Some this) ≡ Some (if b then line else now)
 first_line true line this now old e same = ap (λ z. option_or z (Some this)) e
@@ -183,7 +179,7 @@ kept_same inside inside' put put' take take' shut shut' i p t s =
 -- ---- how many items are taken
 
 taken_more : (event : Event) (past : List Event) → k_of (event ∷ past) ≡ length (items_got event) + k_of past
-taken_more (TakeItems items why) past = omega (arith, length-append (taken past) (map (taken_at (line_behind past)) items), length-map items (taken_at (line_behind past)))
+taken_more (TakeEnd reply) past = omega (arith, length-append (taken past) (map (taken_at (line_behind past)) (passed [] reply)), length-map (passed [] reply) (taken_at (line_behind past)))
 taken_more event past = omega arith
 
 taken_behind : (events past : List Event) → k_of (reverse events ++ past) ≡ length (all_got events) + k_of past
@@ -209,19 +205,25 @@ module _ {S O T N B : Type 0} {offered : O → List Offered} {last : T → List 
   -- the entries after an event on this line
   pub inside_after :
       (event : Event) (line : ℕ) (after : Kept) (left : List Offered) → length events + 2 ≡ line → items_of left ≡ after.inside → Counts (meant w.auditor.capacity) (kept_of offered w) event after →
-      Moves (offered_at line) w.auditor.shut event (offered w.auditor.inside.list) left → ((count : ℕ) (why : Bool) → event ≡ PutStored count why → ⊥) → left ≡ coming (event ∷ reverse events)
+      Moves (offered_at line) w.auditor.shut event (offered w.auditor.inside.list) left → ((reply : Reply ℕ) → event ≡ PutEnd reply → ⊥) → left ≡ coming (event ∷ reverse events)
   inside_after event line after left number are c moves other =
       moved (reverse events) (kept_of offered w) (agrees_of r) capacity event after (offered w.auditor.inside.list) left r.inside are (counted_so event after c)
       (subst (λ z. Moves (offered_at z) w.auditor.shut event (offered w.auditor.inside.list) left) (line_is number) moves) other
 
-  pub stored_after :
-      (count : ℕ) (why : Bool) (line : ℕ) (after : Kept) (left : List Offered) → length events + 2 ≡ line → items_of left ≡ after.inside →
-      Counts (meant w.auditor.capacity) (kept_of offered w) (PutStored count why) after → Moves (offered_at line) w.auditor.shut (PutStored count why) (offered w.auditor.inside.list) left →
-      mark_last line count left ≡ coming (PutStored count why ∷ reverse events)
-  stored_after count why line after left number are c moves =
-      ap (λ z. mark_last z count left) (line_is number) ∙
-      moved_stored (reverse events) (kept_of offered w) (agrees_of r) capacity count why after (offered w.auditor.inside.list) left r.inside are
-      (counted_so (PutStored count why) after c) moves
+  pub put_after :
+      (reply : Reply ℕ) (line : ℕ) (after : Kept) (left : List Offered) → length events + 2 ≡ line → items_of left ≡ after.inside →
+      Counts (meant w.auditor.capacity) (kept_of offered w) (PutEnd reply) after → Moves (offered_at line) w.auditor.shut (PutEnd reply) (offered w.auditor.inside.list) left →
+      mark_last line (passed 0 reply) left ≡ coming (PutEnd reply ∷ reverse events)
+  put_after reply line after left number are c moves =
+      ap (λ z. mark_last z (passed 0 reply) left) (line_is number) ∙
+      moved_put (reverse events) (kept_of offered w) (agrees_of r) capacity reply after (offered w.auditor.inside.list) left r.inside are (counted_so (PutEnd reply) after c) moves
+
+  pub stored_line :
+      (reply : Reply ℕ) {line now : ℕ} (after : Kept) → length events + 2 ≡ line → Counts (meant w.auditor.capacity) (kept_of offered w) (PutEnd reply) after → (0 < passed 0 reply → now ≡ line) →
+      (passed 0 reply ≡ 0 → now ≡ w.stored_at) → now ≡ line_behind (before_stored (PutEnd reply ∷ reverse events))
+  stored_line reply after number c some none =
+      let (most, within) = counted_within (reverse events) (kept_of offered w) (agrees_of r) capacity reply after (counted_so (PutEnd reply) after c) in
+      stored_line_on reply (reverse events) most _ within (λ l. some l ∙ line_is number) (λ e. none e ∙ r.stored_at)
 
   -- what is remembered by another witness that keeps the same
   pub still_remembers :
@@ -252,10 +254,10 @@ module _ {S O T N B : Type 0} {offered : O → List Offered} {last : T → List 
   refuses next o t event NotLinearizable still f = (still, f.0, subst (λ z. ¬ IsLinearizable z (events ++ event ∷ [])) r.capacity_is f.1)
   refuses next o t event OutOfMemory still f = inl (subst (λ z. HasMoreItems o z (events ++ event ∷ [])) r.capacity_is f.1)
 
-  -- what is remembered after an event on this line, except for the end of a put that stored some, if it leaves what is kept besides the
+  -- what is remembered after an event on this line, except for the end of a put, if it leaves what is kept besides the
   -- auditor like this
   pub heard :
-      {next : Witness S O T N B} {line : ℕ} {told' event : Event} → told' ≡ event → length events + 2 ≡ line → ((count : ℕ) (why : Bool) → event ≡ PutStored count why → ⊥) →
+      {next : Witness S O T N B} {line : ℕ} {told' event : Event} → told' ≡ event → length events + 2 ≡ line → ((reply : Reply ℕ) → event ≡ PutEnd reply → ⊥) →
       next.auditor.capacity ≡ w.auditor.capacity → Counts (meant w.auditor.capacity) (kept_of offered w) told' (kept_of offered next) →
       Moves (offered_at line) w.auditor.shut told' (offered w.auditor.inside.list) (offered next.auditor.inside.list) → last next.taken ≡ last_of next.limit (taken (event ∷ reverse events)) →
       next.last_taken ≡ last_taken (event ∷ reverse events) → next.ended_at ≡ (if has_ended (event ∷ reverse events) then Some (ended_line (event ∷ reverse events)) else None) →
@@ -268,18 +270,3 @@ module _ {S O T N B : Type 0} {offered : O → List Offered} {last : T → List 
       told_so offered last next capacity events event told' is
       (next_remembers offered last w next capacity events event r same (counted_so event (kept_of offered next) counts')
       (inside_after event line (kept_of offered next) (offered next.auditor.inside.list) number refl counts' moves' other) t l e d p s)
-
-  -- and after one whose line no cause reports, and that takes nothing
-  pub quiet_heard :
-      {next : Witness S O T N B} {line : ℕ} (event : Event) → IsQuiet event → length events + 2 ≡ line → next.auditor.capacity ≡ w.auditor.capacity →
-      Counts (meant w.auditor.capacity) (kept_of offered w) event (kept_of offered next) →
-      Moves (offered_at line) w.auditor.shut event (offered w.auditor.inside.list) (offered next.auditor.inside.list) → KeepsTaken w next → next.ended_at ≡ w.ended_at → next.told_at ≡ w.told_at →
-      next.put_at ≡ w.put_at → next.stored_at ≡ w.stored_at → Remembers offered last next capacity (events ++ event ∷ [])
-  quiet_heard (PutBegin items) q number same counts moves t e d p s = absurd q
-  quiet_heard (PutStored count why) q number same counts moves t e d p s = absurd q
-  quiet_heard CloseEnd q number same counts moves t e d p s = absurd q
-  quiet_heard (TakeItems items why) q number same counts moves t e d p s = absurd q
-  quiet_heard TakeClosed q number same counts moves t e d p s = absurd q
-  quiet_heard {next} event q number same counts moves t e d p s =
-      heard {event = event} refl number (λ count why f. subst (λ z. IsQuiet z) f q) same counts moves (taken_kept last w next (taken (reverse events)) t r.taken) (t.2 ∙ r.taken_last) (e ∙ r.ended)
-      (d ∙ r.told) (p ∙ r.put_at) (s ∙ r.stored_at)

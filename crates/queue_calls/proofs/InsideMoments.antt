@@ -3,7 +3,7 @@ use Rattle.std.proofs.Common.{◌≡◌, ◌⊎◌, inl, inr, ℕ, ◌+◌, ◌-
 use Rattle.std.specs.Prelude.{max}
 use Rattle.std.proofs.lemmas.List.{append-nil, take-append-drop, length-take, length-take-le}
 use Rattle.queue_calls.specs.Queue.{Capacity, Unbounded, Between, Queue, queue}
-use Rattle.queue_calls.specs.Calls.{Event, PutBegin, PutStored, PutFull, PutShort, PutNothing, PutClosed, CloseBegin, CloseEnd, TakeBegin, TakeItems, TakeEmpty, TakeShort, TakeNothing, TakeClosed, Producer, Idle, Putting, FoundShut, Closing, Consumer, Resting, Taking, Point, point}
+use Rattle.queue_calls.specs.Calls.{Event, PutBegin, PutEnd, CloseBegin, CloseEnd, TakeBegin, TakeEnd, passed, Producer, Idle, Putting, FoundShut, Closing, Consumer, Resting, Taking, Point, point}
 use Rattle.queue_calls.specs.Counting.{Kept, kept, without, Counts}
 use Rattle.queue_calls.specs.Reporting.{AtSome, AtEach, Surely, Perhaps, IsSurelyInside, IsPerhapsInside}
 use Rattle.queue_calls.specs.State.{IsProper, MayHold, taken_by, left_by, FitsPut, FitsTake, Describes, offered_by, asked_by, TellsPoint}
@@ -223,22 +223,17 @@ IsNoLonger _ after before = after ≤ before
 
 comes_in : (capacity : Capacity) (k : Kept) (event : Event) (after : Kept) → Counts capacity k event after → IsNoLonger event (length after.inside) (length k.inside)
 comes_in capacity k (PutBegin items) after c = tt
-comes_in capacity k (PutStored count why) after (n, inside, is, some, few, lacks, fits) = no_longer k after _ fits.1 (without_less (n - count) k.inside)
-comes_in capacity k PutFull after (n, inside, is, lacks, fits) = no_longer k after _ fits.1 (without_less n k.inside)
-comes_in capacity k PutShort after (n, inside, is, several, lacks, fits) = no_longer k after _ fits.1 (without_less n k.inside)
-comes_in capacity k PutNothing after ends = elim ends [
-  | inl b ↦ (let (n, inside, is, fits) = b in no_longer k after _ fits.1 (without_less n k.inside))
-  | inr b ↦ (let (n, is, e) = b in no_longer k after _ e (omega arith))
+comes_in capacity k (PutEnd reply) after ends = elim ends [
+  | inl (n, inside, is, open', within, lacks, fits) ↦ no_longer k after _ fits.1 (without_less (n - passed 0 reply) k.inside)
+  | inr (n, is, none, e) ↦ no_longer k after _ e (omega arith)
 ]
-comes_in capacity k PutClosed after (n, is, e) = no_longer k after _ e (omega arith)
 comes_in capacity k CloseBegin after (free, e) = no_longer k after _ e (omega arith)
 comes_in capacity k CloseEnd after (again, is, e) = no_longer k after _ e (omega arith)
 comes_in capacity k (TakeBegin wanted) after (rests, some, e) = no_longer k after _ e (omega arith)
-comes_in capacity k (TakeItems items why) after (wanted, before, closed, is, some, few, lacks, next, fits) = no_longer k after _ fits.1 (drop_less (length items) k.inside)
-comes_in capacity k TakeEmpty after (wanted, before, is, none, fits) = no_longer k after _ fits.1 (drop_less 0 k.inside)
-comes_in capacity k TakeShort after (wanted, before, closed, is, several, less, found, fits) = no_longer k after _ fits.1 (drop_less 0 k.inside)
-comes_in capacity k TakeNothing after (wanted, before, closed, is, fits) = no_longer k after _ fits.1 (drop_less 0 k.inside)
-comes_in capacity k TakeClosed after (wanted, before, closed, is, none, begun, e) = no_longer k after _ e (omega arith)
+comes_in capacity k (TakeEnd reply) after (wanted, before, closed, is, ends) = elim ends [
+  | inl (open', within, found, next, fits) ↦ no_longer k after _ fits.1 (drop_less (length (passed [] reply)) k.inside)
+  | inr (shuts, none, begun, e) ↦ no_longer k after _ e (omega arith)
+]
 
 abbrev Follows : Capacity → List Event → Event → Kept → Kept → Type 0
 Follows capacity events event before after =
@@ -247,19 +242,7 @@ Follows capacity events event before after =
 
 pub perhaps_follows : (capacity : Capacity) (events : List Event) (event : Event) (before after : Kept) → Follows capacity events event before after
 perhaps_follows capacity events (PutBegin items) before after j j' c n is = perhaps_grows capacity events (PutBegin items) before after j j' n is
-perhaps_follows capacity events (PutStored count why) before after j j' c n is = perhaps_stays capacity events (PutStored count why) before after j j' n (comes_in capacity before (PutStored count why) after c) is
-perhaps_follows capacity events PutFull before after j j' c n is = perhaps_stays capacity events PutFull before after j j' n (comes_in capacity before PutFull after c) is
-perhaps_follows capacity events PutShort before after j j' c n is = perhaps_stays capacity events PutShort before after j j' n (comes_in capacity before PutShort after c) is
-perhaps_follows capacity events PutNothing before after j j' c n is = perhaps_stays capacity events PutNothing before after j j' n (comes_in capacity before PutNothing after c) is
-perhaps_follows capacity events PutClosed before after j j' c n is = perhaps_stays capacity events PutClosed before after j j' n (comes_in capacity before PutClosed after c) is
-perhaps_follows capacity events CloseBegin before after j j' c n is = perhaps_stays capacity events CloseBegin before after j j' n (comes_in capacity before CloseBegin after c) is
-perhaps_follows capacity events CloseEnd before after j j' c n is = perhaps_stays capacity events CloseEnd before after j j' n (comes_in capacity before CloseEnd after c) is
-perhaps_follows capacity events (TakeBegin wanted) before after j j' c n is = perhaps_stays capacity events (TakeBegin wanted) before after j j' n (comes_in capacity before (TakeBegin wanted) after c) is
-perhaps_follows capacity events (TakeItems items why) before after j j' c n is = perhaps_stays capacity events (TakeItems items why) before after j j' n (comes_in capacity before (TakeItems items why) after c) is
-perhaps_follows capacity events TakeEmpty before after j j' c n is = perhaps_stays capacity events TakeEmpty before after j j' n (comes_in capacity before TakeEmpty after c) is
-perhaps_follows capacity events TakeShort before after j j' c n is = perhaps_stays capacity events TakeShort before after j j' n (comes_in capacity before TakeShort after c) is
-perhaps_follows capacity events TakeNothing before after j j' c n is = perhaps_stays capacity events TakeNothing before after j j' n (comes_in capacity before TakeNothing after c) is
-perhaps_follows capacity events TakeClosed before after j j' c n is = perhaps_stays capacity events TakeClosed before after j j' n (comes_in capacity before TakeClosed after c) is
+perhaps_follows capacity events event before after j j' c n is = perhaps_stays capacity events event before after j j' n (comes_in capacity before event after c) is
 
 -- ---- before the first event
 

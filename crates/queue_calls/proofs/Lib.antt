@@ -1,3 +1,4 @@
+pub mod Replies
 pub mod Ends
 pub mod Rooms
 pub mod Points

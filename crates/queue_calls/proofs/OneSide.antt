@@ -1,7 +1,7 @@
 -- One of the two sides: its state, the marks that move it, and what is picked by it.
 use Rattle.std.proofs.Common.{◌≡◌, ◌↔◌, ℕ, List, [], ◌∷◌, refl, subst}
 use Rattle.queue_calls.specs.Queue.{Capacity, Operation, Dequeue, FindFewer, FindClosed}
-use Rattle.queue_calls.specs.Calls.{TakeBegin, TakeItems, TakeEmpty, TakeShort, TakeNothing, TakeClosed, Mark, Happens, Effect, Producer, Consumer, ProducerStep, ConsumerStep, Point, Leads}
+use Rattle.queue_calls.specs.Calls.{TakeBegin, TakeEnd, Mark, Happens, Effect, Producer, Consumer, ProducerStep, ConsumerStep, Point, Leads}
 use Rattle.queue_calls.specs.Order.{Side, P, C, pick, side_of, doer_of, Numbered, numbered, OwnStep, Comes, Makes, AreProducerCalls, AreConsumerCalls}
 
 -- ---- what is picked
@@ -62,21 +62,13 @@ step_of C capacity s t m l = l.consumer
 -- a mark of the other side leaves a side unchanged
 pub others_mark : (y : Side) (m : Mark) (w after : Where y) → (mark_side m ≡ y → ⊥) → Steps y w m after ↔ (after ≡ w)
 others_mark P (Happens (TakeBegin wanted)) w after not = ((λ f. f), (λ f. f))
-others_mark P (Happens (TakeItems items why)) w after not = ((λ f. f), (λ f. f))
-others_mark P (Happens TakeEmpty) w after not = ((λ f. f), (λ f. f))
-others_mark P (Happens TakeShort) w after not = ((λ f. f), (λ f. f))
-others_mark P (Happens TakeNothing) w after not = ((λ f. f), (λ f. f))
-others_mark P (Happens TakeClosed) w after not = ((λ f. f), (λ f. f))
+others_mark P (Happens (TakeEnd reply)) w after not = ((λ f. f), (λ f. f))
 others_mark P (Effect (Dequeue item)) w after not = ((λ f. f), (λ f. f))
 others_mark P (Effect (FindFewer count)) w after not = ((λ f. f), (λ f. f))
 others_mark P (Effect FindClosed) w after not = ((λ f. f), (λ f. f))
 others_mark P m w after not = absurd (not refl)
 others_mark C (Happens (TakeBegin wanted)) w after not = absurd (not refl)
-others_mark C (Happens (TakeItems items why)) w after not = absurd (not refl)
-others_mark C (Happens TakeEmpty) w after not = absurd (not refl)
-others_mark C (Happens TakeShort) w after not = absurd (not refl)
-others_mark C (Happens TakeNothing) w after not = absurd (not refl)
-others_mark C (Happens TakeClosed) w after not = absurd (not refl)
+others_mark C (Happens (TakeEnd reply)) w after not = absurd (not refl)
 others_mark C (Effect (Dequeue item)) w after not = absurd (not refl)
 others_mark C (Effect (FindFewer count)) w after not = absurd (not refl)
 others_mark C (Effect FindClosed) w after not = absurd (not refl)

@@ -1,7 +1,7 @@
 -- What the report needs to know about an event, from what is counted in a history.
 use Rattle.std.proofs.Common.{◌≡◌, inl, inr, false, List, [], ◌∷◌, ◌++◌, reverse, refl, sym, ap, subst, ◌∙◌, append-nil, arith}
 use Rattle.queue_calls.specs.Queue.{Capacity}
-use Rattle.queue_calls.specs.Calls.{Event, PutBegin, PutStored, PutFull, PutShort, PutNothing, PutClosed, CloseBegin, CloseEnd, TakeBegin, TakeItems, TakeEmpty, TakeShort, TakeNothing, TakeClosed}
+use Rattle.queue_calls.specs.Calls.{Event, PutBegin, PutEnd, CloseBegin, CloseEnd, TakeBegin, TakeEnd}
 use Rattle.queue_calls.specs.Counting.{Kept, kept, Counts, CountTo}
 use Rattle.queue_calls.specs.Reporting.{put_is_open, take_is_open}
 use Rattle.queue_calls.specs.State.{IsProper, offered_by}
@@ -11,6 +11,7 @@ use Rattle.queue_calls.specs.declared.turns.TakeTurn.TheVariants.{Rests}
 use Rattle.queue_calls.proofs.Agrees.{Agrees}
 use Rattle.queue_calls.proofs.Agreeing.{offered_is, turned, turned_behind}
 use Rattle.queue_calls.proofs.Remembering.{agrees}
+use Rattle.queue_calls.proofs.Replies.{few, none_passed}
 
 -- the sides that have a call under way are those of the past
 abbrev SidesFit : List Event → Kept → Type 0
@@ -29,22 +30,17 @@ module _ (capacity : Capacity) (past : List Event) (k : Kept) (f : SidesFit past
     | inl b ↦ put_is after _ b.1 refl
     | inr b ↦ put_is after _ b.1 refl
   ]
-  sides_step (PutStored count why) after (n, inside, is, some, few, lacks, fits) = put_is after _ fits.1 refl
-  sides_step PutFull after (n, inside, is, lacks, fits) = put_is after _ fits.1 refl
-  sides_step PutShort after (n, inside, is, several, lacks, fits) = put_is after _ fits.1 refl
-  sides_step PutNothing after ends = elim ends [
-    | inl b ↦ (let (n, inside, is, fits) = b in put_is after _ fits.1 refl)
-    | inr b ↦ (let (n, is, e) = b in put_is after _ e refl)
+  sides_step (PutEnd reply) after ends = elim ends [
+    | inl (n, inside, is, open', within, lacks, fits) ↦ put_is after _ fits.1 refl
+    | inr (n, is, none, e) ↦ put_is after _ e refl
   ]
-  sides_step PutClosed after (n, is, e) = put_is after _ e refl
   sides_step CloseBegin after (free, e) = put_is after _ e refl
   sides_step CloseEnd after (again, is, e) = put_is after _ e refl
   sides_step (TakeBegin wanted) after (rests, some, e) = take_is after _ e refl
-  sides_step (TakeItems items why) after (wanted, before, closed, is, some, few, lacks, next, fits) = take_is after _ fits.1 refl
-  sides_step TakeEmpty after (wanted, before, is, none, fits) = take_is after _ fits.1 refl
-  sides_step TakeShort after (wanted, before, closed, is, several, less, found, fits) = take_is after _ fits.1 refl
-  sides_step TakeNothing after (wanted, before, closed, is, fits) = take_is after _ fits.1 refl
-  sides_step TakeClosed after (wanted, before, closed, is, none, begun, e) = take_is after _ e refl
+  sides_step (TakeEnd reply) after (wanted, before, closed, is, ends) = elim ends [
+    | inl (open', within, found, next, fits) ↦ take_is after _ fits.1 refl
+    | inr (shuts, none, begun, e) ↦ take_is after _ e refl
+  ]
 
 sides_behind : (capacity : Capacity) (past events : List Event) (k last : Kept) → SidesFit past k → CountTo capacity k events last → SidesFit (reverse events ++ past) last
 sides_behind capacity past [] k last f e = let F : Kept → Type 0 = λ z. SidesFit past z in subst F (sym e) f
@@ -62,20 +58,11 @@ last_count capacity k (first ∷ events) event last (next, c, more) =
 
 -- a put that ends stored no more than it offered
 within : (capacity : Capacity) (past : List Event) (k : Kept) (a : Agrees past k) (event : Event) (after : Kept) → Counts capacity k event after → StoresWithin event past
-within capacity past k a (PutBegin items) after c = tt
-within capacity past k a (PutStored count why) after (n, inside, is, some, few, lacks, fits) = omega (arith, few, ap offered_by is, offered_is past k a)
-within capacity past k a PutFull after c = tt
-within capacity past k a PutShort after c = tt
-within capacity past k a PutNothing after c = tt
-within capacity past k a PutClosed after c = tt
-within capacity past k a CloseBegin after c = tt
-within capacity past k a CloseEnd after c = tt
-within capacity past k a (TakeBegin wanted) after c = tt
-within capacity past k a (TakeItems items why) after c = tt
-within capacity past k a TakeEmpty after c = tt
-within capacity past k a TakeShort after c = tt
-within capacity past k a TakeNothing after c = tt
-within capacity past k a TakeClosed after c = tt
+within capacity past k a (PutEnd reply) after ends = elim ends [
+  | inl (n, inside, is, open', fits, lacks, e) ↦ omega (arith, few (λ z. z) 0 reply n refl fits, ap offered_by is, offered_is past k a)
+  | inr (n, is, none, e) ↦ omega (arith, none_passed reply none)
+]
+within capacity past k a _ after c = tt
 
 module _ (capacity : Capacity) (events : List Event) (k : Kept) (proper : IsProper capacity) (counted : CountTo capacity (kept [] Free Rests false) events k) where
   pub sides_fit : SidesFit (reverse events) k

@@ -3,7 +3,7 @@ use Rattle.std.proofs.Common.{◌≡◌, ℕ, ◌^◌, ◌<◌, ◌≤◌, Bool,
 use Rattle.std.specs.Prelude.{All}
 use Rattle.std.proofs.lemmas.Bool.{ltb-true, ltb-false}
 use Rattle.std.proofs.lemmas.List.Elements.{All-cons, All-nil}
-use Rattle.queue_calls.specs.Calls.{Event, PutBegin, PutStored, PutFull, PutShort, PutNothing, PutClosed, CloseBegin, CloseEnd, TakeBegin, TakeItems, TakeEmpty, TakeShort, TakeNothing, TakeClosed}
+use Rattle.queue_calls.specs.Calls.{Event, PutBegin, PutEnd, CloseBegin, CloseEnd, TakeBegin, TakeEnd, Passed, Lacked, Short, Nothing, Shut}
 use Rattle.queue_calls.specs.InTurn.{UnderWay, NoCall, APut, AClose, ATake, Sides, sides, MovesSides, Turns}
 use Rattle.call_lines.specs.Lines.{Allows, AreSmall}
 use Rattle.queue_calls.specs.Recordings.{first_word, Line, line, IsOfFormat, IsFurther, event_told, begun_after, and_then, events_told}
@@ -30,15 +30,15 @@ none_small = All-nil (λ n. n < 2 ^ 64)
 -- ---- one event
 
 -- a put that stored this many: if it says why they are no more, the line has the number only if they are fewer than it offered
-stored_tells : (count offered : ℕ) (why : Bool) → 0 < count → count ≤ offered → AreSmall (count ∷ []) → Tells (begun.Put offered) (line_of (begun.Put offered) (PutStored count why)) (PutStored count why)
+stored_tells : (count offered : ℕ) (why : Bool) → 0 < count → count ≤ offered → AreSmall (count ∷ []) → Tells (begun.Put offered) (line_of (begun.Put offered) (PutEnd (Passed count why))) (PutEnd (Passed count why))
 stored_tells count offered false some most small = (refl, (some, small))
 stored_tells count offered true some most small =
-    elim (nat_lt count offered) as (λ t. nat_lt count offered ≡ t → Tells (begun.Put offered) (line word.Stored (if t then count ∷ [] else [])) (PutStored count true)) [
-      | true ↦ λ fewer. (ap (λ (t : Bool). Some (PutStored (if t then count else 0) true)) fewer, (some, small))
+    elim (nat_lt count offered) as (λ t. nat_lt count offered ≡ t → Tells (begun.Put offered) (line word.Stored (if t then count ∷ [] else [])) (PutEnd (Passed count true))) [
+      | true ↦ λ fewer. (ap (λ (t : Bool). Some (PutEnd (Passed (if t then count else 0) true))) fewer, (some, small))
       | false ↦ λ whole.
           let least : offered ≤ count = ltb-false count offered whole in
           let all : offered ≡ count = omega (arith, most, least) in
-          (ap (λ (n : ℕ). Some (PutStored n true)) all, (tt, none_small))
+          (ap (λ (n : ℕ). Some (PutEnd (Passed n true))) all, (tt, none_small))
     ] refl
 
 -- a take: the line has the number it asks for only if that is more than one
@@ -56,42 +56,39 @@ take_tells b wanted some small =
 line_tells : (b : Begun) (event : Event) (s t : Sides) → BeganLast b s.producer → MovesSides s event t → AreSmall (numbers_in event) → Tells b (line_of b event) event
 line_tells b (PutBegin []) s t began turn small = absurd (omega (arith, turn.1))
 line_tells b (PutBegin (item ∷ items)) s t began turn small = (refl, (tt, small))
-line_tells b (PutStored count why) s t began turn small =
+line_tells b (PutEnd (Passed count why)) s t began turn small =
     let put : b ≡ begun.Put turn.0 = subst (BeganLast b) turn.1 began in
-    subst (λ (x : Begun). Tells x (line_of x (PutStored count why)) (PutStored count why)) (sym put) (stored_tells count turn.0 why turn.2 turn.3 small)
-line_tells b PutFull s t began turn small = (refl, (tt, none_small))
-line_tells b PutShort s t began turn small = (refl, (tt, none_small))
-line_tells b PutNothing s t began turn small = (refl, (tt, none_small))
-line_tells b PutClosed s t began turn small =
+    subst (λ (x : Begun). Tells x (line_of x (PutEnd (Passed count why))) (PutEnd (Passed count why))) (sym put) (stored_tells count turn.0 why turn.2.0 turn.2.1 small)
+line_tells b (PutEnd Lacked) s t began turn small = (refl, (tt, none_small))
+line_tells b (PutEnd Short) s t began turn small = (refl, (tt, none_small))
+line_tells b (PutEnd Nothing) s t began turn small = (refl, (tt, none_small))
+line_tells b (PutEnd Shut) s t began turn small =
     let put : b ≡ begun.Put turn.0 = subst (BeganLast b) turn.1 began in
-    subst (λ (x : Begun). Tells x (line_of x PutClosed) PutClosed) (sym put) (refl, (tt, none_small))
+    subst (λ (x : Begun). Tells x (line_of x (PutEnd Shut)) (PutEnd Shut)) (sym put) (refl, (tt, none_small))
 line_tells b CloseBegin s t began turn small = (refl, (tt, none_small))
 line_tells b CloseEnd s t began turn small =
     let close : b ≡ begun.Close = subst (BeganLast b) turn.0 began in
     subst (λ (x : Begun). Tells x (line_of x CloseEnd) CloseEnd) (sym close) (refl, (tt, none_small))
 line_tells b (TakeBegin wanted) s t began turn small = take_tells b wanted turn.1 small
-line_tells b (TakeItems [] why) s t began turn small = absurd (omega (arith, turn.2))
-line_tells b (TakeItems (item ∷ items) true) s t began turn small = (refl, (tt, small))
-line_tells b (TakeItems (item ∷ items) false) s t began turn small = (refl, (tt, small))
-line_tells b TakeEmpty s t began turn small = (refl, (tt, none_small))
-line_tells b TakeShort s t began turn small = (refl, (tt, none_small))
-line_tells b TakeNothing s t began turn small = (refl, (tt, none_small))
-line_tells b TakeClosed s t began turn small = (refl, (tt, none_small))
+line_tells b (TakeEnd (Passed [] why)) s t began turn small = absurd (omega (arith, turn.2))
+line_tells b (TakeEnd (Passed (item ∷ items) true)) s t began turn small = (refl, (tt, small))
+line_tells b (TakeEnd (Passed (item ∷ items) false)) s t began turn small = (refl, (tt, small))
+line_tells b (TakeEnd Lacked) s t began turn small = (refl, (tt, none_small))
+line_tells b (TakeEnd Short) s t began turn small = (refl, (tt, none_small))
+line_tells b (TakeEnd Nothing) s t began turn small = (refl, (tt, none_small))
+line_tells b (TakeEnd Shut) s t began turn small = (refl, (tt, none_small))
 
 -- after it what the producer has under way is again what it began last
 began_behind : (b : Begun) (event : Event) (s t : Sides) → BeganLast b s.producer → MovesSides s event t → BeganLast (begun_after b (line_of b event).word (line_of b event).numbers) t.producer
 began_behind b (PutBegin items) s t began turn = subst (λ (x : Sides). BeganLast (begun.Put (length items)) x.producer) (sym turn.2) refl
-began_behind b (PutStored count true) s t began turn = subst (λ (x : Sides). BeganLast b x.producer) (sym turn.4) tt
-began_behind b (PutStored count false) s t began turn = subst (λ (x : Sides). BeganLast b x.producer) (sym turn.4) tt
-began_behind b PutFull s t began turn = subst (λ (x : Sides). BeganLast b x.producer) (sym turn.2) tt
-began_behind b PutShort s t began turn = subst (λ (x : Sides). BeganLast b x.producer) (sym turn.3) tt
-began_behind b PutNothing s t began turn = subst (λ (x : Sides). BeganLast b x.producer) (sym turn.2) tt
-began_behind b PutClosed s t began turn = subst (λ (x : Sides). BeganLast b x.producer) (sym turn.2) tt
+began_behind b (PutEnd (Passed count true)) s t began turn = subst (λ (x : Sides). BeganLast b x.producer) (sym turn.3) tt
+began_behind b (PutEnd (Passed count false)) s t began turn = subst (λ (x : Sides). BeganLast b x.producer) (sym turn.3) tt
+began_behind b (PutEnd _) s t began turn = subst (λ (x : Sides). BeganLast b x.producer) (sym turn.3) tt
 began_behind b CloseBegin s t began turn = subst (λ (x : Sides). BeganLast begun.Close x.producer) (sym turn.1) refl
 began_behind b CloseEnd s t began turn = subst (λ (x : Sides). BeganLast b x.producer) (sym turn.1) tt
-began_behind b (TakeItems items true) s t began turn = subst (λ (x : Sides). BeganLast b x.producer) (sym turn.4) began
-began_behind b (TakeItems items false) s t began turn = subst (λ (x : Sides). BeganLast b x.producer) (sym turn.4) began
-began_behind b TakeShort s t began turn = subst (λ (x : Sides). BeganLast b x.producer) (sym turn.3) began
+began_behind b (TakeEnd (Passed items true)) s t began turn = subst (λ (x : Sides). BeganLast b x.producer) (sym turn.3) began
+began_behind b (TakeEnd (Passed items false)) s t began turn = subst (λ (x : Sides). BeganLast b x.producer) (sym turn.3) began
+began_behind b (TakeEnd _) s t began turn = subst (λ (x : Sides). BeganLast b x.producer) (sym turn.3) began
 began_behind b event s t began turn = subst (λ (x : Sides). BeganLast b x.producer) (sym turn.2) began
 
 -- ---- a history

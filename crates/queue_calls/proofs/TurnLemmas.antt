@@ -1,8 +1,9 @@
 -- Well-formed histories: one more event, and the calls that are under way after a history.
-use Rattle.std.proofs.Common.{◌≡◌, ℕ, suc, ◌+◌, Bool, true, false, List, [], ◌∷◌, ◌++◌, length, refl, sym, ap, subst, ◌∙◌, arith, length-append}
+use Rattle.std.proofs.Common.{◌≡◌, inl, inr, ℕ, suc, ◌+◌, Bool, true, false, List, [], ◌∷◌, ◌++◌, length, refl, sym, ap, subst, ◌∙◌, arith, length-append}
 use Rattle.queue_calls.specs.Queue.{Capacity, Operation, Enqueue, FindNoRoom, FindShut, Close, Dequeue, FindFewer, FindClosed}
-use Rattle.queue_calls.specs.Calls.{Event, PutBegin, PutStored, PutFull, PutShort, PutNothing, PutClosed, CloseBegin, CloseEnd, TakeBegin, TakeItems, TakeEmpty, TakeShort, TakeNothing, TakeClosed, Mark, Happens, Effect, Producer, Idle, Putting, FoundShut, Closing, Consumer, Resting, Taking, FoundClosed, short_of, ProducerStep, ConsumerStep, Point, LeadTo, events_among, IsLinearizable}
+use Rattle.queue_calls.specs.Calls.{Event, PutBegin, PutEnd, CloseBegin, CloseEnd, TakeBegin, TakeEnd, Mark, Happens, Effect, Producer, Idle, Putting, FoundShut, Closing, Consumer, Resting, Taking, FoundClosed, passed, lacked_by, CanReply, ProducerStep, ConsumerStep, Point, LeadTo, events_among, IsLinearizable}
 use Rattle.queue_calls.specs.InTurn.{UnderWay, NoCall, APut, AClose, ATake, Sides, sides, MovesSides, Turns, CallsAreInTurn}
+use Rattle.queue_calls.proofs.Replies.{shut_within}
 
 pub one_turn_more : (h : List Event) (e : Event) (s t u : Sides) → Turns s h t → MovesSides t e u → Turns s (h ++ e ∷ []) u
 one_turn_more [] e s t u r l = (u, subst (λ z. MovesSides z e u) r l, refl)
@@ -13,12 +14,10 @@ last_turn [] e s u (n, f, r) = (s, refl, subst (λ z. MovesSides s e z) (sym r) 
 last_turn (x ∷ h) e s u (n, f, r) = let (t, a, b) = last_turn h e n u r in (t, (n, f, a), b)
 
 same_turn : (e : Event) (s t u : Sides) → MovesSides s e t → MovesSides s e u → t ≡ u
-same_turn (PutStored count why) s t u a b = a.4 ∙ sym b.4
-same_turn PutShort s t u a b = a.3 ∙ sym b.3
+same_turn (PutEnd reply) s t u a b = a.3 ∙ sym b.3
 same_turn CloseBegin s t u a b = a.1 ∙ sym b.1
 same_turn CloseEnd s t u a b = a.1 ∙ sym b.1
-same_turn (TakeItems items why) s t u a b = a.4 ∙ sym b.4
-same_turn TakeShort s t u a b = a.3 ∙ sym b.3
+same_turn (TakeEnd reply) s t u a b = a.3 ∙ sym b.3
 same_turn e s t u a b = a.2 ∙ sym b.2
 
 pub same_turns : (h : List Event) (s t u : Sides) → Turns s h t → Turns s h u → t ≡ u
@@ -113,26 +112,23 @@ module _ (s : Sides) (p p' : Producer) (c c' : Consumer) (hp : HasPut p s.produc
   in_turn : (e : Event) → ProducerStep p (Happens e) p' → ConsumerStep c (Happens e) c' → Next e s p' c'
   in_turn (PutBegin items) (a, some, b) f =
       by_put (PutBegin items) (APut (length items)) (idle_has s.producer (has_p Idle a), some, refl) (left_p (Putting 0 0 items) (APut (length items)) b (omega arith)) f
-  in_turn (PutStored count why) (left, some, a, b) f =
-      by_put (PutStored count why) NoCall
-      (count + length left, putting_has (short_of why count (length left)) count left s.producer (has_p (Putting (short_of why count (length left)) count left) a), some, omega arith, refl) (left_p Idle NoCall b tt) f
-  in_turn PutFull (items, a, b) f = by_put PutFull NoCall (0 + length items, putting_has 1 0 items s.producer (has_p (Putting 1 0 items) a), refl) (left_p Idle NoCall b tt) f
-  in_turn PutShort (items, some, a, b) f =
-      by_put PutShort NoCall (0 + length items, putting_has (length items) 0 items s.producer (has_p (Putting (length items) 0 items) a), omega (arith, some), refl) (left_p Idle NoCall b tt) f
-  in_turn PutNothing (items, a, b) f = by_put PutNothing NoCall (0 + length items, putting_has 0 0 items s.producer (has_p (Putting 0 0 items) a), refl) (left_p Idle NoCall b tt) f
-  in_turn PutClosed (a, b) f = let (n, g) = shut_has s.producer (has_p FoundShut a) in by_put PutClosed NoCall (n, g, refl) (left_p Idle NoCall b tt) f
+  in_turn (PutEnd reply) (was, b) f =
+      let (n, is, within) : (n : ℕ) × (s.producer ≡ APut n) × CanReply reply (passed 0 reply) n = elim was [
+        | inl (o, left, w, a) ↦ (passed 0 reply + length left, putting_has (lacked_by reply (passed 0 reply) (length left)) (passed 0 reply) left s.producer (has_p (Putting (lacked_by reply (passed 0 reply) (length left)) (passed 0 reply) left) a), w)
+        | inr (o, a) ↦ (let (n, g) = shut_has s.producer (has_p FoundShut a) in (n, g, shut_within reply (passed 0 reply) n o))
+      ] in
+      by_put (PutEnd reply) NoCall (n, is, within, refl) (left_p Idle NoCall b tt) f
   in_turn CloseBegin (a, b) f = by_put CloseBegin AClose (idle_has s.producer (has_p Idle a), refl) (left_p (Closing false) AClose b tt) f
   in_turn CloseEnd (a, b) f = by_put CloseEnd NoCall (closing_has true s.producer (has_p (Closing true) a), refl) (left_p Idle NoCall b tt) f
   in_turn (TakeBegin wanted) f (a, some, b) =
       by_take (TakeBegin wanted) (ATake wanted) (resting_has s.consumer (has_c Resting a), some, refl) (left_c (Taking 0 [] wanted) (ATake wanted) b (omega arith)) f
-  in_turn (TakeItems items why) f (left, some, a, b) =
-      by_take (TakeItems items why) NoCall
-      (length items + left, taking_has (short_of why (length items) left) items left s.consumer (has_c (Taking (short_of why (length items) left) items left) a), some, omega arith, refl) (left_c Resting NoCall b tt) f
-  in_turn TakeEmpty f (wanted, a, b) = by_take TakeEmpty NoCall (0 + wanted, taking_has 1 [] wanted s.consumer (has_c (Taking 1 [] wanted) a), refl) (left_c Resting NoCall b tt) f
-  in_turn TakeShort f (wanted, some, a, b) =
-      by_take TakeShort NoCall (0 + wanted, taking_has wanted [] wanted s.consumer (has_c (Taking wanted [] wanted) a), omega (arith, some), refl) (left_c Resting NoCall b tt) f
-  in_turn TakeNothing f (wanted, a, b) = by_take TakeNothing NoCall (0 + wanted, taking_has 0 [] wanted s.consumer (has_c (Taking 0 [] wanted) a), refl) (left_c Resting NoCall b tt) f
-  in_turn TakeClosed f (a, b) = let (n, g) = told_has s.consumer (has_c FoundClosed a) in by_take TakeClosed NoCall (n, g, refl) (left_c Resting NoCall b tt) f
+  in_turn (TakeEnd reply) f (was, b) =
+      let took : List ℕ = passed [] reply in
+      let (n, is, within) : (n : ℕ) × (s.consumer ≡ ATake n) × CanReply reply (length took) n = elim was [
+        | inl (o, left, w, a) ↦ (length took + left, taking_has (lacked_by reply (length took) left) took left s.consumer (has_c (Taking (lacked_by reply (length took) left) took left) a), w)
+        | inr (o, a) ↦ (let (n, g) = told_has s.consumer (has_c FoundClosed a) in (n, g, shut_within reply (length took) n o))
+      ] in
+      by_take (TakeEnd reply) NoCall (n, is, within, refl) (left_c Resting NoCall b tt) f
 
   -- an operation leaves each side's call unchanged
   same_sides : (d : Operation) → ProducerStep p (Effect d) p' → ConsumerStep c (Effect d) c' → HasPut p' s.producer × HasTake c' s.consumer

@@ -1,28 +1,57 @@
 -- Histories of calls of a queue by one producer and one consumer, and linearizability (Herlihy and Wing, 1990): each operation of a
 -- call takes effect at one moment between the call's start and its end, as if the queue's operations came one after the other.
-use Rattle.std.specs.Prelude.{◌≡◌, ℕ, zero, suc, ◌<◌, Bool, true, false, List, [], ◌∷◌, ◌++◌, length}
+use Rattle.std.specs.Prelude.{◌≡◌, ◌⊎◌, ℕ, zero, suc, ◌+◌, ◌<◌, ◌≤◌, Bool, true, false, List, [], ◌∷◌, ◌++◌, length}
 use Rattle.queue_calls.specs.Queue.{Capacity, Operation, Enqueue, FindNoRoom, FindShut, Close, Dequeue, FindFewer, FindClosed, Queue, queue, Step}
 
--- an event of a history: a call begins, or it ends with an answer. A put offers items. The first `count` of these are stored, and if
--- some are left, it reports that there was no room for one more or no reason; or none is stored, because there is no room for one,
--- because there is no room for all of them, without a reason, or because the queue is closed. A take asks for a number of items. It
--- takes these, and if they are fewer, it reports that there were no more or no reason; or it takes none, because there is none,
--- because there are fewer than it asks for, without a reason, or because there is none and the queue is closed.
+-- the reply with which a call ends. The call passed items, and if it left others, it reports that there was no room or no item for one
+-- more, or no reason; or it passed none, because there was no room or no item for one, because there was not enough for all, without a
+-- reason, or because the queue was closed, and empty if the call is a take.
+pub data Reply (A : Type 0) : Type 0 where
+  Passed : (what : A) (why : Bool) → Reply A
+  Lacked : Reply A
+  Short : Reply A
+  Nothing : Reply A
+  Shut : Reply A
+
+-- what a call passed by its reply
+abbrev pub passed : {A : Type 0} → (none : A) → Reply A → A
+passed none (Passed what why) = what
+passed none _ = none
+
+-- it reports that the queue was closed
+abbrev pub is_shut : {A : Type 0} → Reply A → Bool
+is_shut Shut = true
+is_shut _ = false
+
+-- the reply can be that of a call of `most` items, if it passed `done`
+abbrev pub CanReply : {A : Type 0} → Reply A → (done most : ℕ) → Type 0
+CanReply (Passed what why) done most = (0 < done) × (done ≤ most)
+CanReply Short done most = 1 < most
+CanReply _ done most = Unit {0}
+
+-- the number for which a call reports that there was no room or were no items, if it passed `done` items and left others: one more than
+-- it passed if it left some and says why, otherwise 0
+abbrev pub short_of : Bool → (done left : ℕ) → ℕ
+short_of why done zero = 0
+short_of false done (suc left) = 0
+short_of true done (suc left) = suc done
+
+-- the same by its reply: also for one, or for all, if it passed none
+abbrev pub lacked_by : {A : Type 0} → Reply A → (done left : ℕ) → ℕ
+lacked_by (Passed what why) done left = short_of why done left
+lacked_by Lacked done left = 1
+lacked_by Short done left = left
+lacked_by _ done left = 0
+
+-- an event of a history: a call begins, or it ends with a reply. A put offers items, and the first of them are stored; a take asks for a
+-- number of items.
 pub data Event : Type 0 where
   PutBegin : (items : List ℕ) → Event
-  PutStored : (count : ℕ) (why : Bool) → Event
-  PutFull : Event
-  PutShort : Event
-  PutNothing : Event
-  PutClosed : Event
+  PutEnd : (reply : Reply ℕ) → Event
   CloseBegin : Event
   CloseEnd : Event
   TakeBegin : (wanted : ℕ) → Event
-  TakeItems : (items : List ℕ) (why : Bool) → Event
-  TakeEmpty : Event
-  TakeShort : Event
-  TakeNothing : Event
-  TakeClosed : Event
+  TakeEnd : (reply : Reply (List ℕ)) → Event
 
 -- what comes in a history: an event, or an operation that takes effect
 pub data Mark : Type 0 where
@@ -44,21 +73,13 @@ pub data Consumer : Type 0 where
   Taking : (lacked : ℕ) (took : List ℕ) (left : ℕ) → Consumer
   FoundClosed : Consumer
 
--- the number for which a call found no room or no items, if it passed `count` items and left others: one more than it passed if it left
--- some and says why, otherwise 0
-abbrev pub short_of : Bool → ℕ → ℕ → ℕ
-short_of why count zero = 0
-short_of false count (suc left) = 0
-short_of true count (suc left) = suc count
-
 -- the calls of the producer: the state that each mark needs, and the state it results in; the consumer's marks leave it unchanged
 abbrev pub ProducerStep : Producer → Mark → Producer → Type 0
 ProducerStep p (Happens (PutBegin items)) after = (p ≡ Idle) × (0 < length items) × (after ≡ Putting 0 0 items)
-ProducerStep p (Happens (PutStored count why)) after = (left : List ℕ) × (0 < count) × (p ≡ Putting (short_of why count (length left)) count left) × (after ≡ Idle)
-ProducerStep p (Happens PutFull) after = (items : List ℕ) × (p ≡ Putting 1 0 items) × (after ≡ Idle)
-ProducerStep p (Happens PutShort) after = (items : List ℕ) × (1 < length items) × (p ≡ Putting (length items) 0 items) × (after ≡ Idle)
-ProducerStep p (Happens PutNothing) after = (items : List ℕ) × (p ≡ Putting 0 0 items) × (after ≡ Idle)
-ProducerStep p (Happens PutClosed) after = (p ≡ FoundShut) × (after ≡ Idle)
+ProducerStep p (Happens (PutEnd reply)) after =
+    (((is_shut reply ≡ false) × (left : List ℕ) × CanReply reply (passed 0 reply) (passed 0 reply + length left) ×
+    (p ≡ Putting (lacked_by reply (passed 0 reply) (length left)) (passed 0 reply) left)) ⊎ ((is_shut reply ≡ true) × (p ≡ FoundShut))) ×
+    (after ≡ Idle)
 ProducerStep p (Happens CloseBegin) after = (p ≡ Idle) × (after ≡ Closing false)
 ProducerStep p (Happens CloseEnd) after = (p ≡ Closing true) × (after ≡ Idle)
 ProducerStep p (Effect (Enqueue item)) after =
@@ -71,11 +92,10 @@ ProducerStep p _ after = after ≡ p
 -- the calls of the consumer, which the producer's marks leave unchanged
 abbrev pub ConsumerStep : Consumer → Mark → Consumer → Type 0
 ConsumerStep c (Happens (TakeBegin wanted)) after = (c ≡ Resting) × (0 < wanted) × (after ≡ Taking 0 [] wanted)
-ConsumerStep c (Happens (TakeItems items why)) after = (left : ℕ) × (0 < length items) × (c ≡ Taking (short_of why (length items) left) items left) × (after ≡ Resting)
-ConsumerStep c (Happens TakeEmpty) after = (wanted : ℕ) × (c ≡ Taking 1 [] wanted) × (after ≡ Resting)
-ConsumerStep c (Happens TakeShort) after = (wanted : ℕ) × (1 < wanted) × (c ≡ Taking wanted [] wanted) × (after ≡ Resting)
-ConsumerStep c (Happens TakeNothing) after = (wanted : ℕ) × (c ≡ Taking 0 [] wanted) × (after ≡ Resting)
-ConsumerStep c (Happens TakeClosed) after = (c ≡ FoundClosed) × (after ≡ Resting)
+ConsumerStep c (Happens (TakeEnd reply)) after =
+    (((is_shut reply ≡ false) × (left : ℕ) × CanReply reply (length (passed [] reply)) (length (passed [] reply) + left) ×
+    (c ≡ Taking (lacked_by reply (length (passed [] reply)) left) (passed [] reply) left)) ⊎ ((is_shut reply ≡ true) × (c ≡ FoundClosed))) ×
+    (after ≡ Resting)
 ConsumerStep c (Effect (Dequeue item)) after =
     (lacked : ℕ) × (took : List ℕ) × (left : ℕ) × (c ≡ Taking lacked took (suc left)) × (after ≡ Taking lacked (took ++ item ∷ []) left)
 ConsumerStep c (Effect (FindFewer count)) after = (wanted : ℕ) × (c ≡ Taking 0 [] wanted) × (after ≡ Taking count [] wanted)

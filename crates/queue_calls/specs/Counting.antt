@@ -1,10 +1,10 @@
 -- Linearizability by counting: what an auditor keeps of a history, and what each event needs of it and makes of it. It keeps the items
 -- that are inside, with those offered by the put under way, which may have been stored; a history is linearizable if each event can be
 -- counted.
-use Rattle.std.specs.Prelude.{◌≡◌, ◌⊎◌, ℕ, suc, ◌-◌, ◌<◌, ◌≤◌, Bool, true, false, List, [], ◌∷◌, ◌++◌, length, take, drop, ◌↔◌}
-use Rattle.queue_calls.specs.Queue.{Capacity, LacksRoom}
-use Rattle.queue_calls.specs.Calls.{Event, PutBegin, PutStored, PutFull, PutShort, PutNothing, PutClosed, CloseBegin, CloseEnd, TakeBegin, TakeItems, TakeEmpty, TakeShort, TakeNothing, TakeClosed, IsLinearizable}
-use Rattle.queue_calls.specs.State.{IsProper, AreNext, CanEndPut, CanEndTake, offered_by, asked_by, has_closed}
+use Rattle.std.specs.Prelude.{◌≡◌, ◌⊎◌, ℕ, ◌-◌, ◌<◌, Bool, true, false, List, [], ◌∷◌, ◌++◌, length, take, drop, ◌↔◌}
+use Rattle.queue_calls.specs.Queue.{Capacity}
+use Rattle.queue_calls.specs.Calls.{Event, PutBegin, PutEnd, CloseBegin, CloseEnd, TakeBegin, TakeEnd, Nothing, Shut, passed, is_shut, CanReply, lacked_by, IsLinearizable}
+use Rattle.queue_calls.specs.State.{IsProper, MayLack, AreNext, CanEndPut, CanEndTake, offered_by, asked_by, has_closed}
 use Rattle.queue_calls.specs.declared.auditors.CallAuditor.{CallAuditor}
 use Rattle.queue_calls.specs.declared.turns.PutTurn.{PutTurn}
 use Rattle.queue_calls.specs.declared.turns.PutTurn.TheVariants.{Free, Offers, Late, Closes}
@@ -38,37 +38,30 @@ EndsPut capacity k rest after = CanEndPut capacity (length k.inside) (asked_by k
 abbrev pub EndsTake : Capacity → Kept → ℕ → Kept → Type 0
 EndsTake capacity k count after = CanEndTake capacity (length k.inside) (offered_by k.put) count × (after ≡ kept (drop count k.inside) k.put Rests k.shut)
 
+-- a take that took `done` items found fewer than `lacked`, if it reports that, and there were more to come if it took none
+abbrev pub FoundFewer : (before : ℕ) (ended : Bool) (done lacked : ℕ) → Type 0
+FoundFewer before ended done lacked = 0 < lacked → (before < lacked) × (done ≡ 0 → ended ≡ true → 0 < before)
+
 -- an event can be counted: what was kept before, and what is kept after
 abbrev pub Counts : Capacity → Kept → Event → Kept → Type 0
 Counts capacity k (PutBegin items) after =
     (k.put ≡ Free) × (0 < length items) ×
     (((k.shut ≡ false) × (after ≡ kept (k.inside ++ items) (Offers (length items) (length k.inside)) k.take false)) ⊎
     ((k.shut ≡ true) × (after ≡ kept k.inside (Late (length items)) k.take true)))
-Counts capacity k (PutStored count why) after =
-    (offered before : ℕ) × (k.put ≡ Offers offered before) × (0 < count) × (count ≤ offered) × (why ≡ true → count < offered → LacksRoom capacity before (suc count)) ×
-    EndsPut capacity k (offered - count) after
-Counts capacity k PutFull after = (offered before : ℕ) × (k.put ≡ Offers offered before) × LacksRoom capacity before 1 × EndsPut capacity k offered after
-Counts capacity k PutShort after =
-    (offered before : ℕ) × (k.put ≡ Offers offered before) × (1 < offered) × LacksRoom capacity before offered × EndsPut capacity k offered after
-Counts capacity k PutNothing after =
-    ((offered before : ℕ) × (k.put ≡ Offers offered before) × EndsPut capacity k offered after) ⊎
-    ((offered : ℕ) × (k.put ≡ Late offered) × (after ≡ kept k.inside Free k.take k.shut))
-Counts capacity k PutClosed after = (offered : ℕ) × (k.put ≡ Late offered) × (after ≡ kept k.inside Free k.take k.shut)
+Counts capacity k (PutEnd reply) after =
+    ((offered before : ℕ) × (k.put ≡ Offers offered before) × (is_shut reply ≡ false) × CanReply reply (passed 0 reply) offered ×
+    MayLack capacity before (lacked_by reply (passed 0 reply) (offered - passed 0 reply)) × EndsPut capacity k (offered - passed 0 reply) after) ⊎
+    ((offered : ℕ) × (k.put ≡ Late offered) × ((reply ≡ Nothing) ⊎ (reply ≡ Shut)) × (after ≡ kept k.inside Free k.take k.shut))
 Counts capacity k CloseBegin after = (k.put ≡ Free) × (after ≡ kept k.inside (Closes k.shut) k.take k.shut)
 Counts capacity k CloseEnd after = (again : Bool) × (k.put ≡ Closes again) × (after ≡ kept k.inside Free k.take true)
 Counts capacity k (TakeBegin wanted) after =
     (k.take ≡ Rests) × (0 < wanted) × (after ≡ kept k.inside k.put (Waits wanted (length k.inside - offered_by k.put) k.shut) k.shut)
-Counts capacity k (TakeItems items why) after =
-    (wanted before : ℕ) × (ended : Bool) × (k.take ≡ Waits wanted before ended) × (0 < length items) × (length items ≤ wanted) ×
-    (why ≡ true → length items < wanted → before ≤ length items) × AreNext items k.inside × EndsTake capacity k (length items) after
-Counts capacity k TakeEmpty after =
-    (wanted before : ℕ) × (k.take ≡ Waits wanted before false) × (before ≡ 0) × EndsTake capacity k 0 after
-Counts capacity k TakeShort after =
-    (wanted before : ℕ) × (ended : Bool) × (k.take ≡ Waits wanted before ended) × (1 < wanted) × (before < wanted) × (ended ≡ true → 0 < before) × EndsTake capacity k 0 after
-Counts capacity k TakeNothing after = (wanted before : ℕ) × (ended : Bool) × (k.take ≡ Waits wanted before ended) × EndsTake capacity k 0 after
-Counts capacity k TakeClosed after =
-    (wanted before : ℕ) × (ended : Bool) × (k.take ≡ Waits wanted before ended) × (k.inside ≡ []) × (has_closed k.put k.shut ≡ true) ×
-    (after ≡ kept [] k.put Rests true)
+Counts capacity k (TakeEnd reply) after =
+    (wanted before : ℕ) × (ended : Bool) × (k.take ≡ Waits wanted before ended) ×
+    (((is_shut reply ≡ false) × CanReply reply (length (passed [] reply)) wanted ×
+    FoundFewer before ended (length (passed [] reply)) (lacked_by reply (length (passed [] reply)) (wanted - length (passed [] reply))) ×
+    AreNext (passed [] reply) k.inside × EndsTake capacity k (length (passed [] reply)) after) ⊎
+    ((is_shut reply ≡ true) × (k.inside ≡ []) × (has_closed k.put k.shut ≡ true) × (after ≡ kept [] k.put Rests true)))
 
 -- the events of a history can be counted, one after the other
 abbrev pub AreCounted : Capacity → Kept → List Event → Type 0

@@ -1,6 +1,6 @@
 -- The entries inside after an event.
-use Rattle.std.specs.Prelude.{◌≡◌, ℕ, Bool, List, ◌++◌, map, length, take, drop, if◌then◌else◌, Result, MatchResult}
-use Rattle.queue_calls.specs.Calls.{Event, PutBegin, PutStored, PutFull, PutShort, PutNothing, TakeItems}
+use Rattle.std.specs.Prelude.{◌≡◌, ℕ, Bool, true, List, [], ◌++◌, map, length, take, drop, if◌then◌else◌, Result, MatchResult}
+use Rattle.queue_calls.specs.Calls.{Event, PutBegin, PutEnd, TakeEnd, passed, is_shut}
 use Rattle.queue_calls.specs.declared.auditors.CallAuditor.{CallAuditor}
 use Rattle.queue_calls.specs.declared.faults.Fault.{Fault}
 
@@ -8,11 +8,8 @@ use Rattle.queue_calls.specs.declared.faults.Fault.{Fault}
 -- first; a take that ends removes as many as it took
 abbrev pub Moves : {E : Type 0} → (entry : ℕ → E) → Bool → Event → List E → List E → Type 0
 Moves entry shut (PutBegin items) before after = after ≡ (if shut then before else before ++ map entry items)
-Moves entry shut (PutStored count why) before after = (kept : ℕ) × (after ≡ take kept before)
-Moves entry shut PutFull before after = (kept : ℕ) × (after ≡ take kept before)
-Moves entry shut PutShort before after = (kept : ℕ) × (after ≡ take kept before)
-Moves entry shut PutNothing before after = (kept : ℕ) × (after ≡ take kept before)
-Moves entry shut (TakeItems items why) before after = after ≡ drop (length items) before
+Moves entry shut (PutEnd reply) before after = (is_shut reply ≡ true → after ≡ before) × (kept : ℕ) × (after ≡ take kept before)
+Moves entry shut (TakeEnd reply) before after = after ≡ drop (length (passed [] reply)) before
 Moves entry shut _ before after = after ≡ before
 
 -- and a refused one changes nothing

@@ -1,12 +1,12 @@
 -- The items that a history takes, and the cases in which lists are too short for it.
 use Rattle.std.specs.Prelude.{◌⊎◌, ℕ, ◌<◌, List, [], length, flat_map}
 use Rattle.queue_calls.specs.Queue.{Capacity}
-use Rattle.queue_calls.specs.Calls.{Event, TakeItems}
+use Rattle.queue_calls.specs.Calls.{Event, TakeEnd, passed}
 use Rattle.queue_calls.specs.Audits.{HasMoreItems}
 
 -- the items that an event takes
 abbrev pub items_got : Event → List ℕ
-items_got (TakeItems items why) = items
+items_got (TakeEnd reply) = passed [] reply
 items_got _ = []
 
 -- those that the events of a history take

@@ -1,7 +1,7 @@
 -- Linearizability in the form of Herlihy and Wing: an order of all operations of the calls, which is legal and respects real time.
 use Rattle.std.specs.Prelude.{◌≡◌, ◌⊎◌, ℕ, suc, ◌<◌, false, List, [], ◌∷◌, length, map}
 use Rattle.queue_calls.specs.Queue.{Capacity, Operation, Dequeue, FindFewer, FindClosed, queue, IsLegal}
-use Rattle.queue_calls.specs.Calls.{Event, TakeBegin, TakeItems, TakeEmpty, TakeShort, TakeNothing, TakeClosed, Happens, Effect, Producer, Idle, Consumer, Resting, ProducerStep, ConsumerStep}
+use Rattle.queue_calls.specs.Calls.{Event, TakeBegin, TakeEnd, Happens, Effect, Producer, Idle, Consumer, Resting, ProducerStep, ConsumerStep}
 
 -- the producer or the consumer
 pub data Side : Type 0 where
@@ -18,11 +18,7 @@ pick C C same other = same
 -- the side of an event
 abbrev pub side_of : Event → Side
 side_of (TakeBegin wanted) = C
-side_of (TakeItems items why) = C
-side_of TakeEmpty = C
-side_of TakeShort = C
-side_of TakeNothing = C
-side_of TakeClosed = C
+side_of (TakeEnd reply) = C
 side_of _ = P
 
 -- the side of an operation

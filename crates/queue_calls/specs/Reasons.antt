@@ -2,7 +2,7 @@
 -- before an event, the last one first.
 use Rattle.std.specs.Prelude.{◌≡◌, ℕ, suc, ◌+◌, ◌-◌, Bool, true, false, ◌&&◌, not, ◌==◌, nat_lt, nat_le, if◌then◌else◌, Option, Some, None, List, [], ◌∷◌, ◌++◌, map, length, take, drop, reverse, get_or, is_some, find}
 use Rattle.queue_calls.specs.Queue.{Capacity, Unbounded, Between}
-use Rattle.queue_calls.specs.Calls.{Event, PutBegin, PutStored, PutFull, PutShort, PutNothing, PutClosed, CloseBegin, CloseEnd, TakeBegin, TakeItems, TakeEmpty, TakeShort, TakeNothing, TakeClosed, IsLinearizable}
+use Rattle.queue_calls.specs.Calls.{Event, PutBegin, PutEnd, CloseBegin, CloseEnd, TakeBegin, TakeEnd, Passed, Lacked, Short, Nothing, Shut, passed, IsLinearizable}
 use Rattle.queue_calls.specs.InTurn.{CallsAreInTurn}
 use Rattle.queue_calls.specs.State.{IsProper}
 use Rattle.call_causes.specs.declared.entries.Offered.{Offered}
@@ -31,7 +31,7 @@ has_ended (_ ∷ past) = has_ended past
 -- whether a take has returned Closed
 abbrev pub has_told : List Event → Bool
 has_told [] = false
-has_told (TakeClosed ∷ past) = true
+has_told (TakeEnd Shut ∷ past) = true
 has_told (_ ∷ past) = has_told past
 
 -- the line of the first close that ended
@@ -43,7 +43,7 @@ ended_line (_ ∷ past) = ended_line past
 -- the line of the first take that returned Closed
 abbrev pub told_closed_line : List Event → ℕ
 told_closed_line [] = 0
-told_closed_line (TakeClosed ∷ past) = if has_told past then told_closed_line past else line_behind past
+told_closed_line (TakeEnd Shut ∷ past) = if has_told past then told_closed_line past else line_behind past
 told_closed_line (_ ∷ past) = told_closed_line past
 
 -- the events before the last put that began
@@ -61,7 +61,7 @@ before_take (_ ∷ past) = before_take past
 -- the events before the last end of a put that stored items
 abbrev pub before_stored : List Event → List Event
 before_stored [] = []
-before_stored (PutStored count why ∷ past) = past
+before_stored (PutEnd (Passed count why) ∷ past) = past
 before_stored (_ ∷ past) = before_stored past
 
 -- an item that this line offers
@@ -84,34 +84,26 @@ items_of entries = map (λ o. o.item) entries
 abbrev pub offers : List Event → List Offered
 offers [] = []
 offers (PutBegin items ∷ past) = if has_ended past then [] else map (offered_at (line_behind past)) items
-offers (PutStored count why ∷ past) = []
-offers (PutFull ∷ past) = []
-offers (PutShort ∷ past) = []
-offers (PutNothing ∷ past) = []
-offers (PutClosed ∷ past) = []
+offers (PutEnd reply ∷ past) = []
 offers (_ ∷ past) = offers past
 
 -- what puts that have ended stored, in order
 abbrev pub stored : List Event → List Offered
 stored [] = []
-stored (PutStored count why ∷ past) = stored past ++ map (stored_at (line_behind past)) (take count (offers past))
+stored (PutEnd reply ∷ past) = stored past ++ map (stored_at (line_behind past)) (take (passed 0 reply) (offers past))
 stored (_ ∷ past) = stored past
 
 -- what takes that have ended took, in order
 abbrev pub taken : List Event → List Taken
 taken [] = []
-taken (TakeItems items why ∷ past) = taken past ++ map (taken_at (line_behind past)) items
+taken (TakeEnd reply ∷ past) = taken past ++ map (taken_at (line_behind past)) (passed [] reply)
 taken (_ ∷ past) = taken past
 
 -- how many items the take under way asks for; 0 if none is under way
 abbrev pub wanted : List Event → ℕ
 wanted [] = 0
 wanted (TakeBegin count ∷ past) = count
-wanted (TakeItems items why ∷ past) = 0
-wanted (TakeEmpty ∷ past) = 0
-wanted (TakeShort ∷ past) = 0
-wanted (TakeNothing ∷ past) = 0
-wanted (TakeClosed ∷ past) = 0
+wanted (TakeEnd reply ∷ past) = 0
 wanted (_ ∷ past) = wanted past
 
 -- N: how many items were stored
@@ -241,16 +233,16 @@ closed_cause (next ∷ rest) = Some (ClosedWhileInside next)
 
 -- what contradicts this event after a past, if anything does
 abbrev pub cause_of : (limit : ℕ) → Capacity → Event → List Event → Option Cause
-cause_of limit capacity (PutStored count why) past = stored_cause capacity count why past
-cause_of limit capacity PutFull past = full_cause capacity past
-cause_of limit capacity PutShort past = put_short_cause capacity past
-cause_of limit capacity PutNothing past = if nat_lt (n_of past) (k_of past) then Some (NotStoredButTaken (last_taken past)) else None
-cause_of limit capacity PutClosed past = if has_ended (before_put past) then None else Some ClosedWithoutClose
-cause_of limit capacity (TakeItems items why) past = if has_told past then Some (ItemAfterTold (told_closed_line past)) else items_cause limit capacity why past [] items (coming past)
-cause_of limit capacity TakeEmpty past = empty_cause capacity past
-cause_of limit capacity TakeShort past = take_short_cause capacity past
-cause_of limit capacity TakeNothing past = not_taken_cause capacity 0 past
-cause_of limit capacity TakeClosed past = if has_begun past then closed_cause (coming past) else Some ClosedBeforeClose
+cause_of limit capacity (PutEnd (Passed count why)) past = stored_cause capacity count why past
+cause_of limit capacity (PutEnd Lacked) past = full_cause capacity past
+cause_of limit capacity (PutEnd Short) past = put_short_cause capacity past
+cause_of limit capacity (PutEnd Nothing) past = if nat_lt (n_of past) (k_of past) then Some (NotStoredButTaken (last_taken past)) else None
+cause_of limit capacity (PutEnd Shut) past = if has_ended (before_put past) then None else Some ClosedWithoutClose
+cause_of limit capacity (TakeEnd (Passed items why)) past = if has_told past then Some (ItemAfterTold (told_closed_line past)) else items_cause limit capacity why past [] items (coming past)
+cause_of limit capacity (TakeEnd Lacked) past = empty_cause capacity past
+cause_of limit capacity (TakeEnd Short) past = take_short_cause capacity past
+cause_of limit capacity (TakeEnd Nothing) past = not_taken_cause capacity 0 past
+cause_of limit capacity (TakeEnd Shut) past = if has_begun past then closed_cause (coming past) else Some ClosedBeforeClose
 cause_of limit capacity _ past = None
 
 -- this contradicts an event after others, if the last `limit` items taken are searched

@@ -1,7 +1,7 @@
 -- The text of recorded calls, and the finding on it: a first line with the capacity, and further lines with the events.
 use Rattle.std.specs.Prelude.{◌≡◌, ◌≢◌, ℕ, ◌+◌, ◌-◌, ◌^◌, ◌≤◌, nat_lt, if◌then◌else◌, List, [], ◌∷◌, ◌++◌, Bool, true, false, Option, Some, None, length, codes, All, flat_map}
 use Rattle.queue_calls.specs.Queue.{Capacity, Unbounded, Between, exactly}
-use Rattle.queue_calls.specs.Calls.{Event, PutBegin, PutStored, PutFull, PutShort, PutNothing, PutClosed, CloseBegin, CloseEnd, TakeBegin, TakeItems, TakeEmpty, TakeShort, TakeNothing, TakeClosed, IsLinearizable}
+use Rattle.queue_calls.specs.Calls.{Event, PutBegin, PutEnd, CloseBegin, CloseEnd, TakeBegin, TakeEnd, Passed, Lacked, Short, Nothing, Shut, IsLinearizable}
 use Rattle.queue_calls.specs.InTurn.{CallsAreInTurn}
 use Rattle.queue_calls.specs.Reasons.{IsCause}
 use Rattle.queue_calls.specs.Reporting.{IsReport}
@@ -78,27 +78,27 @@ wanted_told (wanted ∷ more) = wanted
 -- what ends with the word `closed` of the producer
 abbrev pub closed_told : Begun → Event
 closed_told begun.Close = CloseEnd
-closed_told _ = PutClosed
+closed_told _ = PutEnd Shut
 
 -- the event of a line after the first, if the producer began this last
 abbrev pub event_told : Begun → Word → List ℕ → Option Event
 event_told b word.Queue numbers = None
 event_told b word.Cut numbers = None
 event_told b word.Put numbers = Some (PutBegin numbers)
-event_told b word.Stored numbers = Some (PutStored (stored_told b numbers) true)
-event_told b word.PutSome numbers = Some (PutStored (some_told numbers) false)
-event_told b word.Full numbers = Some PutFull
-event_told b word.Short numbers = Some PutShort
-event_told b word.PutNothing numbers = Some PutNothing
+event_told b word.Stored numbers = Some (PutEnd (Passed (stored_told b numbers) true))
+event_told b word.PutSome numbers = Some (PutEnd (Passed (some_told numbers) false))
+event_told b word.Full numbers = Some (PutEnd Lacked)
+event_told b word.Short numbers = Some (PutEnd Short)
+event_told b word.PutNothing numbers = Some (PutEnd Nothing)
 event_told b word.PutClosed numbers = Some (closed_told b)
 event_told b word.Close numbers = Some CloseBegin
 event_told b word.Take numbers = Some (TakeBegin (wanted_told numbers))
-event_told b word.Item numbers = Some (TakeItems numbers true)
-event_told b word.TakeSome numbers = Some (TakeItems numbers false)
-event_told b word.Empty numbers = Some TakeEmpty
-event_told b word.TakeShort numbers = Some TakeShort
-event_told b word.TakeNothing numbers = Some TakeNothing
-event_told b word.TakeClosed numbers = Some TakeClosed
+event_told b word.Item numbers = Some (TakeEnd (Passed numbers true))
+event_told b word.TakeSome numbers = Some (TakeEnd (Passed numbers false))
+event_told b word.Empty numbers = Some (TakeEnd Lacked)
+event_told b word.TakeShort numbers = Some (TakeEnd Short)
+event_told b word.TakeNothing numbers = Some (TakeEnd Nothing)
+event_told b word.TakeClosed numbers = Some (TakeEnd Shut)
 
 -- what the producer began last, after a line
 abbrev pub begun_after : Begun → Word → List ℕ → Begun

@@ -1,7 +1,7 @@
 -- What is reported about a linearizable history. A past is the list of its events, the last one first.
 use Rattle.std.specs.Prelude.{◌≡◌, ℕ, suc, ◌+◌, ◌-◌, ◌^◌, ◌≤◌, Bool, true, false, ◌||◌, not, ◌&&◌, nat_lt, if◌then◌else◌, List, [], ◌∷◌, ◌++◌, length, reverse, min}
 use Rattle.queue_calls.specs.Queue.{Capacity}
-use Rattle.queue_calls.specs.Calls.{Event, PutBegin, PutStored, PutFull, PutShort, PutNothing, PutClosed, CloseBegin, CloseEnd, TakeBegin, TakeItems, TakeEmpty, TakeShort, TakeNothing, TakeClosed, Point, CanLeadTo}
+use Rattle.queue_calls.specs.Calls.{Event, PutBegin, PutEnd, CloseBegin, CloseEnd, TakeBegin, TakeEnd, Passed, Lacked, Short, Nothing, Point, CanLeadTo}
 use Rattle.queue_calls.specs.Reasons.{has_told, offers, n_of, k_of}
 use Rattle.queue_calls.specs.declared.reports.CallsReport.{CallsReport}
 
@@ -24,23 +24,23 @@ begun (_ ∷ past) = begun past
 -- how many puts have ended full, short, or with only some of their items stored because there was no room
 abbrev pub full_ends : List Event → ℕ
 full_ends [] = 0
-full_ends (PutStored count why ∷ past) = full_ends past + as_number (why && nat_lt count (length (offers past)))
-full_ends (PutFull ∷ past) = suc (full_ends past)
-full_ends (PutShort ∷ past) = suc (full_ends past)
+full_ends (PutEnd (Passed count why) ∷ past) = full_ends past + as_number (why && nat_lt count (length (offers past)))
+full_ends (PutEnd Lacked ∷ past) = suc (full_ends past)
+full_ends (PutEnd Short ∷ past) = suc (full_ends past)
 full_ends (_ ∷ past) = full_ends past
 
 -- how many takes have ended empty or short
 abbrev pub empty_ends : List Event → ℕ
 empty_ends [] = 0
-empty_ends (TakeEmpty ∷ past) = suc (empty_ends past)
-empty_ends (TakeShort ∷ past) = suc (empty_ends past)
+empty_ends (TakeEnd Lacked ∷ past) = suc (empty_ends past)
+empty_ends (TakeEnd Short ∷ past) = suc (empty_ends past)
 empty_ends (_ ∷ past) = empty_ends past
 
 -- how many calls have ended with nothing done and no reason reported
 abbrev pub nothing_ends : List Event → ℕ
 nothing_ends [] = 0
-nothing_ends (PutNothing ∷ past) = suc (nothing_ends past)
-nothing_ends (TakeNothing ∷ past) = suc (nothing_ends past)
+nothing_ends (PutEnd Nothing ∷ past) = suc (nothing_ends past)
+nothing_ends (TakeEnd Nothing ∷ past) = suc (nothing_ends past)
 nothing_ends (_ ∷ past) = nothing_ends past
 
 -- whether the producer has a call under way
@@ -48,11 +48,7 @@ abbrev pub put_is_open : List Event → Bool
 put_is_open [] = false
 put_is_open (PutBegin items ∷ past) = true
 put_is_open (CloseBegin ∷ past) = true
-put_is_open (PutStored count why ∷ past) = false
-put_is_open (PutFull ∷ past) = false
-put_is_open (PutShort ∷ past) = false
-put_is_open (PutNothing ∷ past) = false
-put_is_open (PutClosed ∷ past) = false
+put_is_open (PutEnd reply ∷ past) = false
 put_is_open (CloseEnd ∷ past) = false
 put_is_open (_ ∷ past) = put_is_open past
 
@@ -60,11 +56,7 @@ put_is_open (_ ∷ past) = put_is_open past
 abbrev pub take_is_open : List Event → Bool
 take_is_open [] = false
 take_is_open (TakeBegin wanted ∷ past) = true
-take_is_open (TakeItems items why ∷ past) = false
-take_is_open (TakeEmpty ∷ past) = false
-take_is_open (TakeShort ∷ past) = false
-take_is_open (TakeNothing ∷ past) = false
-take_is_open (TakeClosed ∷ past) = false
+take_is_open (TakeEnd reply ∷ past) = false
 take_is_open (_ ∷ past) = take_is_open past
 
 -- whether the last call of the producer has overlapped one of the consumer: one was under way when it began, or began while it was

@@ -1,7 +1,7 @@
 -- What is kept of a history for its report, and how an event is counted.
 use Rattle.std.specs.Prelude.{◌≡◌, ℕ, ◌-◌, ◌≤◌, Bool, true, false, List, ◌∷◌, length, max, min, reverse}
 use Rattle.queue_calls.specs.Queue.{Capacity, Unbounded, Between}
-use Rattle.queue_calls.specs.Calls.{Event, PutBegin, PutStored}
+use Rattle.queue_calls.specs.Calls.{Event, PutBegin, PutEnd, passed}
 use Rattle.queue_calls.specs.Counting.{Kept}
 use Rattle.queue_calls.specs.Reasons.{offers}
 use Rattle.queue_calls.specs.Reporting.{HasCounts, IsSurelyInside, IsPerhapsInside, put_is_open, take_is_open, put_overlaps, take_overlaps}
@@ -62,7 +62,7 @@ pub record Tallies (past : List Event) (tally : Tally) : Type 0 where
 
 -- a put that ends stored no more than it offered
 abbrev pub StoresWithin : Event → List Event → Type 0
-StoresWithin (PutStored count why) past = count ≤ length (offers past)
+StoresWithin (PutEnd reply) past = passed 0 reply ≤ length (offers past)
 StoresWithin _ past = Unit {0}
 
 -- what is known about an event after a past: how many items were offered before it, and which sides have a call under way then

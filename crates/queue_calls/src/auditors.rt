@@ -2,7 +2,7 @@
 ghost use Rattle.std.specs.Prelude.{◌≡◌, ◌<◌, suc, ◌+◌, ◌++◌, ◌↔◌, IsTrue, true, false, ℕ, List, [], if◌then◌else◌, length, take, drop, map, ◌-◌};
 
 use crate::capacities::Capacity;
-use crate::events::Event;
+use crate::events::{Event, Reply};
 use crate::faults::Fault;
 use crate::insides::Inside;
 use crate::turns::{PutTurn, TakeTurn};
@@ -68,14 +68,13 @@ impl<A: Allocator> CallAuditor<VecDeque<u64, A>> {
 
 impl<Q: Inside> CallAuditor<Q> {
     ghost use Rattle.queue_calls.specs.Calls as calls;
-    ghost use Rattle.queue_calls.specs.Calls.{IsLinearizable, PutBegin, PutClosed, CloseBegin, CloseEnd, TakeBegin, TakeClosed};
+    ghost use Rattle.queue_calls.specs.Calls.{IsLinearizable, PutBegin, PutEnd, CloseBegin, CloseEnd, TakeBegin, TakeEnd, Shut};
     ghost use Rattle.queue_calls.specs.State.{IsProper, offered_by, asked_by, AreNext, CanEndPut, CanEndTake};
     ghost use Rattle.queue_calls.specs.Audits.{Audits, Reads};
     ghost use Rattle.queue_calls.specs.Hearings.{auditor_of};
     ghost use Rattle.queue_calls.specs.Insides.{MovesEntries};
-    ghost use Rattle.queue_calls.specs.Deciding.{Decides, EndsAPut, EndsATake};
-    ghost use Rattle.queue_calls.specs.Noting.{items_got};
-    ghost use Rattle.queue_calls.specs.Told.{meant, told};
+    ghost use Rattle.queue_calls.specs.Deciding.{Decides};
+    ghost use Rattle.queue_calls.specs.Told.{meant, reply_by, told};
     ghost use Rattle.queue_calls.specs.declared.turns.PutTurn.TheVariants.{Free, Offers};
     ghost use Rattle.queue_calls.specs.declared.turns.TakeTurn.TheVariants.{Rests};
 
@@ -166,18 +165,11 @@ impl<Q: Inside> CallAuditor<Q> {
     {
         match event {
             Event::PutBegins(items) => self.put_begins(line, items),
-            Event::PutStored(_)
-            | Event::PutSome(_)
-            | Event::PutFull
-            | Event::PutShort
-            | Event::PutNothing => self.put_ends(event),
-            Event::PutClosed => self.put_closed(),
+            Event::PutEnds(reply) => self.put_ends(reply),
             Event::CloseBegins => self.close_begins(),
             Event::CloseEnds => self.close_ends(),
             Event::TakeBegins(wanted) => self.take_begins(wanted),
-            Event::TakeItems(items) | Event::TakeSome(items) => self.take_ends(event, items),
-            Event::TakeEmpty | Event::TakeShort | Event::TakeNothing => self.take_ends(event, &[]),
-            Event::TakeClosed => self.take_closed(),
+            Event::TakeEnds(reply) => self.take_ends(reply),
         }
     }
 
@@ -237,19 +229,23 @@ impl<Q: Inside> CallAuditor<Q> {
         true
     }
 
-    // The put ends with this event, with some of its first items stored or none.
+    // The put ends with this reply.
     #[inline(always)]
-    fn put_ends(&mut self, event: Event<'_>) -> Result<(), Fault>
-        requires { EndsAPut (told event) }
-        ensures decides { Decides Q.items Q.room self.old (told event.entry) result self.new }
+    fn put_ends(&mut self, reply: Reply<usize>) -> Result<(), Fault>
+        ensures decides { Decides Q.items Q.room self.old (PutEnd (reply_by (λ count. count) reply)) result self.new }
         ensures room { Q.room self.new.inside ≡ Q.room self.old.inside }
-        ensures entries { MovesEntries Q.entries (λ item. Q.entry item 0) self.old (told event.entry) result self.new }
+        ensures entries { MovesEntries Q.entries (λ item. Q.entry item 0) self.old
+            (PutEnd (reply_by (λ count. count) reply)) result self.new }
     {
+        let stored = reply.count();
         match self.put {
             PutTurn::Offers { offered, before } => {
-                let Some((stored, lacked)) = event.outcome(offered) else {
+                let Some(lacked) = reply.lacked(stored, offered) else {
                     return Err(Fault::OutOfTurn);
                 };
+                if reply.is_shut() {
+                    return Err(Fault::NotLinearizable);
+                }
                 if lacked > 0 && !self.may_lack(before, lacked) {
                     return Err(Fault::NotLinearizable);
                 }
@@ -259,7 +255,7 @@ impl<Q: Inside> CallAuditor<Q> {
                 Ok(())
             }
             PutTurn::Late { offered } => {
-                let Some((stored, lacked)) = event.outcome(offered) else {
+                let Some(lacked) = reply.lacked(stored, offered) else {
                     return Err(Fault::OutOfTurn);
                 };
                 if stored > 0 || lacked > 0 {
@@ -296,22 +292,6 @@ impl<Q: Inside> CallAuditor<Q> {
         self.inside.truncate(kept);
         self.put = PutTurn::Free;
         true
-    }
-
-    // The put ends: the queue was closed, and none of its items was stored.
-    fn put_closed(&mut self) -> Result<(), Fault>
-        ensures decides { Decides Q.items Q.room self.old PutClosed result self.new }
-        ensures room { Q.room self.new.inside ≡ Q.room self.old.inside }
-        ensures entries { MovesEntries Q.entries (λ item. Q.entry item 0) self.old PutClosed result self.new }
-    {
-        match self.put {
-            PutTurn::Late { .. } => {
-                self.put = PutTurn::Free;
-                Ok(())
-            }
-            PutTurn::Offers { .. } => Err(Fault::NotLinearizable),
-            PutTurn::Free | PutTurn::Closes { .. } => Err(Fault::OutOfTurn),
-        }
     }
 
     // A close begins.
@@ -370,13 +350,14 @@ impl<Q: Inside> CallAuditor<Q> {
         }
     }
 
-    // The take ends with this event and these items.
+    // The take ends with this reply.
     #[inline(always)]
-    fn take_ends(&mut self, event: Event<'_>, items: &[u64]) -> Result<(), Fault>
-        requires { EndsATake (told event) × (items.now ≡ items_got (told event)) }
-        ensures decides { Decides Q.items Q.room self.old (told event.entry) result self.new }
+    fn take_ends(&mut self, reply: Reply<&[u64]>) -> Result<(), Fault>
+        ensures decides { Decides Q.items Q.room self.old (TakeEnd (reply_by (λ items. items.now) reply.entry)) result
+            self.new }
         ensures room { Q.room self.new.inside ≡ Q.room self.old.inside }
-        ensures entries { MovesEntries Q.entries (λ item. Q.entry item 0) self.old (told event.entry) result self.new }
+        ensures entries { MovesEntries Q.entries (λ item. Q.entry item 0) self.old
+            (TakeEnd (reply_by (λ items. items.now) reply.entry)) result self.new }
     {
         let TakeTurn::Waits {
             wanted,
@@ -386,14 +367,18 @@ impl<Q: Inside> CallAuditor<Q> {
         else {
             return Err(Fault::OutOfTurn);
         };
-        let Some((taken, lacked)) = event.outcome(wanted) else {
+        let items = reply.items();
+        let Some(lacked) = reply.lacked(items.len(), wanted) else {
             return Err(Fault::OutOfTurn);
         };
+        if reply.is_shut() {
+            return self.take_closed();
+        }
         if lacked > 0 && lacked <= before {
             return Err(Fault::NotLinearizable);
         }
         // (it found none after a close had ended)
-        if lacked > 0 && taken == 0 && ended && before == 0 {
+        if lacked > 0 && items.is_empty() && ended && before == 0 {
             return Err(Fault::NotLinearizable);
         }
         if !self.are_next(items) || !self.ends_take(items.len()) {
@@ -446,9 +431,9 @@ impl<Q: Inside> CallAuditor<Q> {
 
     // The take ends: the queue was empty and closed.
     fn take_closed(&mut self) -> Result<(), Fault>
-        ensures decides { Decides Q.items Q.room self.old TakeClosed result self.new }
+        ensures decides { Decides Q.items Q.room self.old (TakeEnd Shut) result self.new }
         ensures room { Q.room self.new.inside ≡ Q.room self.old.inside }
-        ensures entries { MovesEntries Q.entries (λ item. Q.entry item 0) self.old TakeClosed result self.new }
+        ensures entries { MovesEntries Q.entries (λ item. Q.entry item 0) self.old (TakeEnd Shut) result self.new }
     {
         match self.take {
             TakeTurn::Rests => Err(Fault::OutOfTurn),

@@ -11,7 +11,7 @@ ghost use Rattle.queue_calls.specs.Told.{meant, told};
 
 use crate::auditors::{AuditorState, CallAuditor};
 use crate::capacities::{Capacity, exactly};
-use crate::events::Event;
+use crate::events::{Event, Reply};
 use crate::faults::{Fault, RecordingFault};
 use crate::insides::Lined;
 use crate::recordings::CallsFinding;
@@ -101,23 +101,23 @@ pub fn event_told(begun: Begun, word: Word, numbers: &[u64]) -> Option<Event<'_>
     Some(match word {
         Word::Queue | Word::Cut => return None,
         Word::Put => Event::PutBegins(numbers),
-        Word::Stored => Event::PutStored(stored_told(begun, numbers)),
-        Word::PutSome => Event::PutSome(some_told(numbers)),
-        Word::Full => Event::PutFull,
-        Word::Short => Event::PutShort,
-        Word::PutNothing => Event::PutNothing,
+        Word::Stored => Event::PutEnds(Reply::Passed(stored_told(begun, numbers))),
+        Word::PutSome => Event::PutEnds(Reply::PassedSome(some_told(numbers))),
+        Word::Full => Event::PutEnds(Reply::Lacked),
+        Word::Short => Event::PutEnds(Reply::Short),
+        Word::PutNothing => Event::PutEnds(Reply::Nothing),
         Word::PutClosed => match begun {
             Begun::Close => Event::CloseEnds,
-            Begun::Nothing | Begun::Put(_) => Event::PutClosed,
+            Begun::Nothing | Begun::Put(_) => Event::PutEnds(Reply::Shut),
         },
         Word::Close => Event::CloseBegins,
         Word::Take => Event::TakeBegins(wanted_told(numbers)),
-        Word::Item => Event::TakeItems(numbers),
-        Word::TakeSome => Event::TakeSome(numbers),
-        Word::Empty => Event::TakeEmpty,
-        Word::TakeShort => Event::TakeShort,
-        Word::TakeNothing => Event::TakeNothing,
-        Word::TakeClosed => Event::TakeClosed,
+        Word::Item => Event::TakeEnds(Reply::Passed(numbers)),
+        Word::TakeSome => Event::TakeEnds(Reply::PassedSome(numbers)),
+        Word::Empty => Event::TakeEnds(Reply::Lacked),
+        Word::TakeShort => Event::TakeEnds(Reply::Short),
+        Word::TakeNothing => Event::TakeEnds(Reply::Nothing),
+        Word::TakeClosed => Event::TakeEnds(Reply::Shut),
     })
 }
 

@@ -21,7 +21,7 @@ pub use auditors::{AuditorState, CallAuditor};
 pub use call_causes::{CAUSE_WORDS, Cause, Next, Offered, Said, TAKEN_LIMIT, Taken, write_cause};
 pub use call_lines::{Word, allows, may_begin};
 pub use capacities::{Capacity, exactly};
-pub use events::{CallEvent, Event};
+pub use events::{CallEvent, Event, Reply};
 pub use faults::{Fault, RecordingFault};
 pub use hearings::{Begun, Hearing, HearingState, begun_after, event_told};
 pub use insides::Inside;

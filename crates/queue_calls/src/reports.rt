@@ -8,7 +8,7 @@ ghost use Rattle.queue_calls.specs.Tallying.{HaveNumbersOf, HaveOtherNumbersOf, 
 ghost use Rattle.queue_calls.specs.Told.{meant, told};
 
 use crate::auditors::CallAuditor;
-use crate::events::Event;
+use crate::events::{Event, Reply};
 use crate::insides::Inside;
 
 /// What is reported of a linearizable history: how much of what an author wanted to test it has reached.
@@ -105,26 +105,29 @@ impl Tally {
             }
             Event::CloseBegins => self.put_begins(auditor.is_taking()),
             Event::TakeBegins(_) => self.take_begins(auditor.is_putting()),
-            Event::PutStored(count) => {
+            Event::PutEnds(Reply::Passed(count)) => {
                 self.report.stored = self.report.stored.saturating_add(count);
                 let is_short = count < offered;
                 self.report.full = self.report.full.saturating_add(usize::from(is_short));
             }
-            Event::PutSome(count) => self.report.stored = self.report.stored.saturating_add(count),
-            Event::PutFull | Event::PutShort => {
+            Event::PutEnds(Reply::PassedSome(count)) => self.report.stored = self
+                .report
+                .stored
+                .saturating_add(count),
+            Event::PutEnds(Reply::Lacked | Reply::Short) => {
                 self.report.full = self.report.full.saturating_add(1);
             }
-            Event::TakeItems(items) | Event::TakeSome(items) => {
+            Event::TakeEnds(Reply::Passed(items) | Reply::PassedSome(items)) => {
                 self.report.taken = self.report.taken.saturating_add(items.len());
             }
-            Event::TakeEmpty | Event::TakeShort => {
+            Event::TakeEnds(Reply::Lacked | Reply::Short) => {
                 self.report.empty = self.report.empty.saturating_add(1);
             }
-            Event::PutNothing | Event::TakeNothing => {
+            Event::PutEnds(Reply::Nothing) | Event::TakeEnds(Reply::Nothing) => {
                 self.report.nothing = self.report.nothing.saturating_add(1);
             }
-            Event::TakeClosed => self.report.told = true,
-            Event::PutClosed | Event::CloseEnds => {}
+            Event::TakeEnds(Reply::Shut) => self.report.told = true,
+            Event::PutEnds(Reply::Shut) | Event::CloseEnds => {}
         }
     }
 

@@ -2,17 +2,17 @@
 ghost use Rattle.std.specs.Prelude.{◌≡◌, ℕ, Bool, ◌<◌, ◌≤◌, ◌+◌, ◌++◌, ◌∷◌, [], List, IfErr, OnOk, Some, length, map, drop, reverse, unwrap_or};
 ghost use Rattle.queue_calls.specs.Queue as queues;
 ghost use Rattle.queue_calls.specs.Calls as calls;
-ghost use Rattle.queue_calls.specs.Calls.{TakeItems, TakeClosed, IsLinearizable};
-ghost use Rattle.queue_calls.specs.InTurn.{APut, ATake, CallsAreInTurn};
-ghost use Rattle.queue_calls.specs.State.{IsProper, call_of_put, call_of_take};
-ghost use Rattle.queue_calls.specs.Told.{meant, told};
+ghost use Rattle.queue_calls.specs.Calls.{PutEnd, TakeEnd, Passed, Shut, IsLinearizable};
+ghost use Rattle.queue_calls.specs.InTurn.{APut, ATake, CallsAreInTurn, MovesSides, Sides};
+ghost use Rattle.queue_calls.specs.State.{IsProper, call_of_put, call_of_take, sides_of};
+ghost use Rattle.queue_calls.specs.Told.{meant, reply_by, told};
 ghost use Rattle.queue_calls.specs.Reasons.{IsCause, at, cause_of, coming, empty_cause, fewer_cause, full_cause, gone_cause, items_cause, last_in, last_of, not_taken_cause, put_short_cause, stored_cause, take_short_cause, taken_at};
 ghost use Rattle.queue_calls.specs.Witnesses.{Remembers, RefusesNext, agreed, comes, last_taken_of, mark_last};
 ghost use Rattle.queue_calls.specs.declared.faults.Fault.TheVariants.{OutOfMemory};
 
 use crate::auditors::CallAuditor;
 use crate::capacities::Capacity;
-use crate::events::Event;
+use crate::events::{Event, Reply};
 use crate::faults::Fault;
 use crate::insides::{Inside, Lined};
 use crate::storage::Storage;
@@ -95,32 +95,30 @@ impl<S: Storage> Witness<S> {
         self.auditor.feed_at(line, event)?;
         match event {
             Event::PutBegins(_) => self.put_at = line,
-            Event::PutStored(count) | Event::PutSome(count) => self.stores(line, count),
+            Event::PutEnds(reply) => self.stores(line, reply.count()),
             Event::CloseEnds => self.ended_at = self.ended_at.or(Some(line)),
-            Event::TakeItems(items) | Event::TakeSome(items) => return self.takes(line, items),
-            Event::TakeClosed => self.told_at = self.told_at.or(Some(line)),
-            Event::PutFull
-            | Event::PutShort
-            | Event::PutNothing
-            | Event::PutClosed
-            | Event::CloseBegins
-            | Event::TakeBegins(_)
-            | Event::TakeEmpty
-            | Event::TakeShort
-            | Event::TakeNothing => {}
+            Event::TakeEnds(reply) => {
+                if !reply.is_shut() {
+                    return self.takes(line, reply.items());
+                }
+                self.told_at = self.told_at.or(Some(line));
+            }
+            Event::CloseBegins | Event::TakeBegins(_) => {}
         }
         Ok(())
     }
 
-    // This line stored the last `count` of the items inside.
+    // This line stored the last `count` of the items inside, or none.
     fn stores(&mut self, line: u64, count: usize)
         ensures inside { S.Offered.items self.new.auditor.inside.list ≡ mark_last line count
             (S.Offered.items self.old.auditor.inside.list) }
         ensures auditor { (self.new.auditor.capacity ≡ self.old.auditor.capacity) ×
             (self.new.auditor.put ≡ self.old.auditor.put) × (self.new.auditor.take ≡ self.old.auditor.take) ×
             (self.new.auditor.shut ≡ self.old.auditor.shut) }
-        ensures lines { (self.new.stored_at ≡ line) × (self.new.ended_at ≡ self.old.ended_at) ×
-            (self.new.told_at ≡ self.old.told_at) × (self.new.put_at ≡ self.old.put_at) }
+        ensures stored { (0 < count → self.new.stored_at ≡ line) ×
+            (count ≡ 0 → self.new.stored_at ≡ self.old.stored_at) }
+        ensures lines { (self.new.ended_at ≡ self.old.ended_at) × (self.new.told_at ≡ self.old.told_at) ×
+            (self.new.put_at ≡ self.old.put_at) }
         ensures taken { (self.new.taken ≡ self.old.taken) × (self.new.limit ≡ self.old.limit) ×
             (self.new.last_taken ≡ self.old.last_taken) }
         ensures room { S.Offered.room self.new.auditor.inside.list ≡ S.Offered.room self.old.auditor.inside.list }
@@ -135,7 +133,9 @@ impl<S: Storage> Witness<S> {
             };
             self.auditor.inside.list.set(place, stored);
         }
-        self.stored_at = line;
+        if count > 0 {
+            self.stored_at = line;
+        }
     }
 
     // This line took these items.
@@ -203,21 +203,49 @@ impl<S: Storage> Witness<S> {
             IsCause self.now.limit capacity events (told event.entry) result }
     {
         match event {
-            Event::PutStored(count) => self.stored_cause(count, true),
-            Event::PutSome(count) => self.stored_cause(count, false),
-            Event::PutFull => self.full_cause(),
-            Event::PutShort => self.put_short_cause(),
-            Event::PutNothing => Cause::NotStoredButTaken(self.last_taken),
-            Event::PutClosed => Cause::ClosedWithoutClose,
-            Event::TakeItems(items) => self.items_cause(line, items, true),
-            Event::TakeSome(items) => self.items_cause(line, items, false),
-            Event::TakeEmpty => self.empty_cause(),
-            Event::TakeShort => self.take_short_cause(),
-            Event::TakeNothing => self.not_taken_cause(0),
-            Event::TakeClosed => self.closed_cause(),
+            Event::PutEnds(reply) => self.put_cause(reply),
+            Event::TakeEnds(reply) => self.take_cause(line, reply),
             // A call that begins takes nothing back, and a close may always end: nothing contradicts these.
             Event::PutBegins(_) | Event::CloseBegins | Event::CloseEnds | Event::TakeBegins(_) =>
                 Cause::ClosedBeforeClose,
+        }
+    }
+
+    // What contradicts the end of a put.
+    fn put_cause(&self, reply: Reply<usize>) -> Cause
+        ensures { (capacity : queues.Capacity) (events : List calls.Event) (cause : Cause) (t : Sides) →
+            Remembers S.Offered.items S.Taken.items self.now capacity events →
+            MovesSides (sides_of self.now.auditor.put self.now.auditor.take)
+            (PutEnd (reply_by (λ count. count) reply)) t →
+            cause_of self.now.limit capacity (PutEnd (reply_by (λ count. count) reply)) (reverse events) ≡ Some cause →
+            result ≡ cause }
+    {
+        match reply {
+            Reply::Passed(count) => self.stored_cause(count, true),
+            Reply::PassedSome(count) => self.stored_cause(count, false),
+            Reply::Lacked => self.full_cause(),
+            Reply::Short => self.put_short_cause(),
+            Reply::Nothing => Cause::NotStoredButTaken(self.last_taken),
+            Reply::Shut => Cause::ClosedWithoutClose,
+        }
+    }
+
+    // What contradicts the end of a take on this line.
+    fn take_cause(&self, line: u64, reply: Reply<&[u64]>) -> Cause
+        ensures { (capacity : queues.Capacity) (events : List calls.Event) (cause : Cause) (t : Sides) →
+            Remembers S.Offered.items S.Taken.items self.now capacity events → length events + 2 ≡ line →
+            MovesSides (sides_of self.now.auditor.put self.now.auditor.take)
+            (TakeEnd (reply_by (λ items. items.now) reply.entry)) t →
+            cause_of self.now.limit capacity (TakeEnd (reply_by (λ items. items.now) reply.entry)) (reverse events) ≡
+            Some cause → result ≡ cause }
+    {
+        match reply {
+            Reply::Passed(items) => self.items_cause(line, items, true),
+            Reply::PassedSome(items) => self.items_cause(line, items, false),
+            Reply::Lacked => self.empty_cause(),
+            Reply::Short => self.take_short_cause(),
+            Reply::Nothing => self.not_taken_cause(0),
+            Reply::Shut => self.closed_cause(),
         }
     }
 
@@ -297,7 +325,8 @@ impl<S: Storage> Witness<S> {
         ensures { (capacity : queues.Capacity) (events : List calls.Event) (cause : Cause) →
             Remembers S.Offered.items S.Taken.items self.now capacity events → length events + 2 ≡ line → (n : ℕ) →
             call_of_take self.now.auditor.take ≡ ATake n →
-            cause_of self.now.limit capacity (TakeItems items.now why) (reverse events) ≡ Some cause → result ≡ cause }
+            cause_of self.now.limit capacity (TakeEnd (Passed items.now why)) (reverse events) ≡ Some cause →
+            result ≡ cause }
     {
         if let Some(told) = self.told_at {
             return Cause::ItemAfterTold(told);
@@ -476,7 +505,7 @@ impl<S: Storage> Witness<S> {
     fn closed_cause(&self) -> Cause
         ensures { (capacity : queues.Capacity) (events : List calls.Event) (cause : Cause) →
             Remembers S.Offered.items S.Taken.items self.now capacity events →
-            cause_of self.now.limit capacity TakeClosed (reverse events) ≡ Some cause → result ≡ cause }
+            cause_of self.now.limit capacity (TakeEnd Shut) (reverse events) ≡ Some cause → result ≡ cause }
     {
         if self.auditor.is_closed() {
             Cause::ClosedWhileInside(self.at(0))

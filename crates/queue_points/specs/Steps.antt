@@ -1,7 +1,7 @@
 -- The state of a side of a history, as it is kept if operations take effect at given moments.
-use Rattle.std.specs.Prelude.{ℕ, List, take, drop}
+use Rattle.std.specs.Prelude.{◌≡◌, ℕ, ◌+◌, false, List, take, drop}
 use Rattle.queue_calls.specs.Queue as queues
-use Rattle.queue_calls.specs.Calls.{Producer, Consumer}
+use Rattle.queue_calls.specs.Calls.{Producer, Consumer, Reply, is_shut, CanReply, lacked_by}
 use Rattle.queue_calls.specs.Calls as calls
 use Rattle.queue_points.specs.declared.steps.Operation.{Operation}
 use Rattle.queue_points.specs.declared.steps.Operation.TheVariants.{Enqueue, FindNoRoom, FindShut, Close, Dequeue, FindFewer, FindClosed}
@@ -36,6 +36,10 @@ abbrev pub consumer_of : List ℕ → ℕ → TakeStand → Consumer
 consumer_of row head Resting = calls.Resting
 consumer_of row head (Taking lacked from left) = calls.Taking lacked (stretch row from head) left
 consumer_of row head FoundClosed = calls.FoundClosed
+
+-- a call that found the queue open may end with this reply, by what it found, passed and left
+abbrev pub EndsOpen : {A : Type 0} → Reply A → (lacked done left : ℕ) → Type 0
+EndsOpen reply lacked done left = (is_shut reply ≡ false) × CanReply reply done (done + left) × (lacked ≡ lacked_by reply done left)
 
 -- the place in the row at which the take under way began
 abbrev pub began_at : TakeStand → ℕ

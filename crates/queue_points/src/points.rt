@@ -15,7 +15,7 @@ use queue_calls::{Capacity, Event};
 /// exactly these moments.
 ///
 /// For example, after `happens(Event::PutBegins(&[5]))`, `takes_effect(Operation::Enqueue(5))` and
-/// `happens(Event::PutStored(1))` the queue holds 5.
+/// `happens(Event::PutEnds(Reply::Passed(1)))` the queue holds 5.
 #[derive(Drop)]
 pub struct LinearizationPoints<'a> {
     capacity: Capacity,

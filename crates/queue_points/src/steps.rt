@@ -1,11 +1,12 @@
 //! The states of the sides of a history, and the operations that lead from one to another.
-ghost use Rattle.std.specs.Prelude.{◌≡◌, ◌<◌, ◌≤◌, ◌↔◌, IfSome, IsNone, IsTrue, get_or, length, suc};
+ghost use Rattle.std.specs.Prelude.{◌≡◌, ◌<◌, ◌≤◌, ◌↔◌, ℕ, List, [], IfSome, IsNone, IsTrue, get_or, length, suc};
 ghost use Rattle.queue_calls.specs.Queue.{Dequeue};
-ghost use Rattle.queue_calls.specs.Calls.{Happens, Effect, Producer, Consumer, TakeItems, Taking, ProducerStep, ConsumerStep, short_of};
-ghost use Rattle.queue_points.specs.Steps.{IsNoItem, began_at, consumer_of, done, producer_of, stretch};
-ghost use Rattle.queue_calls.specs.Told.{told};
+ghost use Rattle.queue_calls.specs.Calls as calls;
+ghost use Rattle.queue_calls.specs.Calls.{Happens, Effect, Producer, Consumer, PutEnd, TakeEnd, ProducerStep, ConsumerStep, passed, short_of};
+ghost use Rattle.queue_points.specs.Steps.{EndsOpen, IsNoItem, began_at, consumer_of, done, producer_of, stretch};
+ghost use Rattle.queue_calls.specs.Told.{reply_by, told};
 
-use queue_calls::Event;
+use queue_calls::{Event, Reply};
 
 /// What an operation of a queue does.
 ///
@@ -59,6 +60,49 @@ fn is_short_of(lacked: usize, why: bool, count: usize, left: usize) -> bool
     }
 }
 
+// Whether a call that found the queue open may end with this reply, by the number for which it found no room or no items, how many
+// items it passed and how many it left.
+fn may_end<N>(reply: &Reply<N>, lacked: usize, done: usize, left: usize) -> bool
+    ensures put { (what : N → ℕ) → done ≡ passed 0 (reply_by what reply.now) →
+        IsTrue result ↔ EndsOpen (reply_by what reply.now) lacked done left }
+    ensures take { (what : N → List ℕ) → done ≡ length (passed [] (reply_by what reply.now)) →
+        IsTrue result ↔ EndsOpen (reply_by what reply.now) lacked done left }
+{
+    match reply {
+        Reply::Passed(_) => done > 0 && is_short_of(lacked, true, done, left),
+        Reply::PassedSome(_) => done > 0 && is_short_of(lacked, false, done, left),
+        Reply::Lacked => lacked == 1,
+        Reply::Short => left > 1 && lacked == left,
+        Reply::Nothing => lacked == 0,
+        Reply::Shut => false,
+    }
+}
+
+// How many items a put stored by its reply.
+fn stored_by(reply: Reply<usize>) -> usize
+    ensures { result ≡ passed 0 (reply_by (λ count. count) reply) }
+{
+    match reply {
+        Reply::Passed(count) | Reply::PassedSome(count) => count,
+        Reply::Lacked | Reply::Short | Reply::Nothing | Reply::Shut => 0,
+    }
+}
+
+// Whether the producer's put ends with this reply.
+fn put_ends(put: PutStand<'_>, reply: Reply<usize>) -> bool
+    ensures { IsTrue result ↔ ProducerStep (producer_of put.entry)
+        (Happens (PutEnd (reply_by (λ count. count) reply))) calls.Idle }
+{
+    match put {
+        PutStand::Putting(lacked, stored, items) => {
+            let left = items.len().saturating_sub(stored);
+            stored == stored_by(reply) && may_end(&reply, lacked, stored, left)
+        }
+        PutStand::FoundShut => matches!(reply, Reply::Shut),
+        PutStand::Idle | PutStand::Closing(_) => false,
+    }
+}
+
 // The producer's state after an event.
 pub fn put_event<'a>(put: PutStand<'a>, event: Event<'a>) -> Option<PutStand<'a>>
     ensures step { IfSome result (λ after. ProducerStep (producer_of put.entry) (Happens (told event.entry))
@@ -70,19 +114,7 @@ pub fn put_event<'a>(put: PutStand<'a>, event: Event<'a>) -> Option<PutStand<'a>
         (Event::PutBegins(items), PutStand::Idle) if !items.is_empty() => Some(PutStand::Putting(
             0, 0, items,
         )),
-        (Event::PutStored(count), PutStand::Putting(lacked, stored, items))
-            if count > 0
-                && stored == count
-                && is_short_of(lacked, true, count, items.len().saturating_sub(count)) => Some(
-            PutStand::Idle,
-        ),
-        (Event::PutSome(count), PutStand::Putting(0, stored, _)) if count > 0 && stored == count =>
-            Some(PutStand::Idle),
-        (Event::PutFull, PutStand::Putting(1, 0, _)) => Some(PutStand::Idle),
-        (Event::PutShort, PutStand::Putting(lacked, 0, items))
-            if items.len() > 1 && lacked == items.len() => Some(PutStand::Idle),
-        (Event::PutNothing, PutStand::Putting(0, 0, _)) => Some(PutStand::Idle),
-        (Event::PutClosed, PutStand::FoundShut) => Some(PutStand::Idle),
+        (Event::PutEnds(reply), _) if put_ends(put, reply) => Some(PutStand::Idle),
         (Event::CloseBegins, PutStand::Idle) => Some(PutStand::Closing(false)),
         (Event::CloseEnds, PutStand::Closing(true)) => Some(PutStand::Idle),
         _ if !event.is_of_producer() => Some(put),
@@ -123,31 +155,31 @@ pub fn stretch(row: &[u64], from: usize, to: usize) -> &[u64]
     &row[from..to]
 }
 
-// The consumer's state after a take of these items.
-fn items_event(
-    row: &[u64],
-    head: usize,
-    items: &[u64],
-    why: bool,
-    lacked: usize,
-    from: usize,
-    left: usize,
-) -> Option<TakeStand>
-    requires began { from ≤ head }
-    requires within { head ≤ length row.now }
-    ensures step { IfSome result (λ after. ConsumerStep (Taking lacked (stretch row.now from head) left)
-        (Happens (TakeItems items.now why)) (consumer_of row.now head after)) }
-    ensures exact { IsNone result → (after : Consumer) →
-        ¬ ConsumerStep (Taking lacked (stretch row.now from head) left) (Happens (TakeItems items.now why)) after }
-    ensures began { IfSome result (λ after. began_at after ≤ head) }
+// The items that a take took by its reply.
+fn taken_by<'a>(reply: Reply<&'a [u64]>) -> &'a [u64]
+    ensures { result.now ≡ passed [] (reply_by (λ items. items.now) reply.entry) }
 {
-    if items.is_empty()
-        || stretch(row, from, head) != items
-        || !is_short_of(lacked, why, items.len(), left)
-    {
-        return None;
+    match reply {
+        Reply::Passed(items) | Reply::PassedSome(items) => items,
+        Reply::Lacked | Reply::Short | Reply::Nothing | Reply::Shut => &[],
     }
-    Some(TakeStand::Resting)
+}
+
+// Whether the consumer's take ends with this reply, with `head` items of the row taken out.
+fn take_ends(row: &[u64], head: usize, take: TakeStand, reply: Reply<&[u64]>) -> bool
+    requires began { began_at take ≤ head }
+    requires within { head ≤ length row.now }
+    ensures { IsTrue result ↔ ConsumerStep (consumer_of row.now head take)
+        (Happens (TakeEnd (reply_by (λ items. items.now) reply.entry))) calls.Resting }
+{
+    match take {
+        TakeStand::Taking(lacked, from, left) => {
+            let items = taken_by(reply);
+            stretch(row, from, head) == items && may_end(&reply, lacked, items.len(), left)
+        }
+        TakeStand::FoundClosed => matches!(reply, Reply::Shut),
+        TakeStand::Resting => false,
+    }
 }
 
 // The consumer's state after an event, with `head` items of the row taken out.
@@ -164,21 +196,9 @@ pub fn take_event(row: &[u64], head: usize, take: TakeStand, event: Event<'_>) -
         (Event::TakeBegins(wanted), TakeStand::Resting) if wanted > 0 => Some(TakeStand::Taking(
             0, head, wanted,
         )),
-        (Event::TakeItems(items), TakeStand::Taking(lacked, from, left)) => items_event(
-            row, head, items, true, lacked, from, left,
-        ),
-        (Event::TakeSome(items), TakeStand::Taking(lacked, from, left)) => items_event(
-            row, head, items, false, lacked, from, left,
-        ),
-        (Event::TakeEmpty, TakeStand::Taking(1, from, _)) if stretch(row, from, head).is_empty() =>
-            Some(TakeStand::Resting),
-        (Event::TakeShort, TakeStand::Taking(lacked, from, left))
-            if stretch(row, from, head).is_empty() && lacked == left && left > 1 => Some(
-            TakeStand::Resting,
-        ),
-        (Event::TakeNothing, TakeStand::Taking(0, from, _))
-            if stretch(row, from, head).is_empty() => Some(TakeStand::Resting),
-        (Event::TakeClosed, TakeStand::FoundClosed) => Some(TakeStand::Resting),
+        (Event::TakeEnds(reply), _) if take_ends(row, head, take, reply) => {
+            Some(TakeStand::Resting)
+        }
         _ if event.is_of_producer() => Some(take),
         _ => None,
     }

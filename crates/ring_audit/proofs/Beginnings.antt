@@ -1,30 +1,26 @@
 -- The events of a side that are a prefix of those of accesses, with one more event.
-use Rattle.std.proofs.Common.{◌≡◌, Bool, Some, List, [], ◌∷◌, ◌++◌, refl, sym, ap, ◌∙◌}
+use Rattle.std.proofs.Common.{◌≡◌, Bool, Some, List, [], ◌∷◌, ◌++◌, refl, sym, ap, ◌∙◌, arith}
 use Rattle.bits_core.specs.declared.events.Side.{Side}
 use Rattle.bits_core.specs.declared.events.Act.{Act}
-use Rattle.bits_core.specs.declared.events.Act.TheVariants.{ReadBegin, ReadEnd, WriteBegin, WriteEnd}
 use Rattle.bits_core.specs.declared.events.Bit.{Bit}
 use Rattle.bits_core.specs.declared.events.Access.{Access}
 use Rattle.bits_core.specs.declared.events.Access.TheVariants as begins
 use Rattle.bits_core.specs.declared.events.Event.{Event}
 use Rattle.bits_core.specs.Bits.{begun_access, begun_by}
 use Rattle.bits_core.specs.Made.{Made, Read, Write, access_of, answered, begin_event, end_event, events_of, IsPrefix, opening_event}
-use Rattle.ring_core.proofs.Readings.Phrases.{same_made}
 pub use Rattle.bits_core.proofs.MadeLemmas.{begin_begins as begun_is, end_begins_none as ended_is}
 
 -- ---- one access
 
 pub begin_is : (s : Side) (x : Made) → begin_event s x ≡ opening_event s (access_of x)
-begin_is s (Read b v) = refl
-begin_is s (Write b v) = refl
+begin_is s x = grind arith
 
 pub answer_is : (x : Made) → (v : Bool) × (x ≡ answered (access_of x) v)
 answer_is (Read b v) = (v, refl)
 answer_is (Write b v) = (v, refl)
 
 pub begun_of : (s : Side) (a : Access) → begun_by (opening_event s a) ≡ Some a
-begun_of s (begins.Read b) = refl
-begun_of s (begins.Write b v) = refl
+begun_of s a = grind arith
 
 -- an access is determined by its start
 pub same_access : (s : Side) (a : Access) (x : Made) → opening_event s a ≡ begin_event s x → access_of x ≡ a
@@ -32,10 +28,7 @@ same_access s a x e = let both : Some a ≡ Some (access_of x) = sym (begun_of s
 
 -- the event that begins an access
 event_of : (s : Side) (b : Bit) (act : Act) (a : Access) → begun_access b act ≡ Some a → record { side = s; bit = b; act = act } ≡ opening_event s a
-event_of s b ReadBegin a e = let is : begins.Read b ≡ a = cc in ap (opening_event s) is
-event_of s b (ReadEnd v) a e = absurd (cc)
-event_of s b (WriteBegin v) a e = let is : begins.Write b v ≡ a = cc in ap (opening_event s) is
-event_of s b WriteEnd a e = absurd (cc)
+event_of s b act a e = grind arith
 
 pub begins_so : (s : Side) (e : Event) (a : Access) → e.side ≡ s → begun_by e ≡ Some a → e ≡ opening_event s a
 begins_so s e a by begun = event_of e.side e.bit e.act a begun ∙ ap (λ t. opening_event t a) by
@@ -53,16 +46,7 @@ pub next_begins : (s : Side) (made whole : List Made) (e : Event) → IsPrefix (
 next_begins s [] [] e (rest, p) = absurd (cc)
 next_begins s [] (y ∷ whole) e (rest, p) = record { next = y; rest = whole; whole_is = refl; begins = cc }
 next_begins s (m ∷ made) [] e (rest, p) = absurd (cc)
-next_begins s (m ∷ made) (y ∷ whole) e (rest, p) =
-    let same : m ≡ y = same_made s m y (cc) (cc) in
-    let tails : (events_of s made ++ e ∷ []) ++ rest ≡ events_of s whole = cc in
-    let on : GoesOnWith s made whole e = next_begins s made whole e (rest, tails) in
-    record {
-      next = on.next;
-      rest = on.rest;
-      whole_is = ap (λ l. y ∷ l) on.whole_is ∙ ap (λ z. z ∷ (made ++ on.next ∷ on.rest)) (sym same);
-      begins = on.begins;
-    }
+next_begins s (m ∷ made) (y ∷ whole) e (rest, p) = grind (arith, next_begins s made whole e (rest, cc))
 
 -- and that the second event ends
 pub record GoesOnBy (s : Side) (made whole : List Made) (b e : Event) : Type 0 where
@@ -76,14 +60,4 @@ pub next_ends : (s : Side) (made whole : List Made) (b e : Event) → IsPrefix (
 next_ends s [] [] b e (rest, p) = absurd (cc)
 next_ends s [] (y ∷ whole) b e (rest, p) = record { next = y; rest = whole; whole_is = refl; begins = cc; ends = cc }
 next_ends s (m ∷ made) [] b e (rest, p) = absurd (cc)
-next_ends s (m ∷ made) (y ∷ whole) b e (rest, p) =
-    let same : m ≡ y = same_made s m y (cc) (cc) in
-    let tails : (events_of s made ++ b ∷ e ∷ []) ++ rest ≡ events_of s whole = cc in
-    let on : GoesOnBy s made whole b e = next_ends s made whole b e (rest, tails) in
-    record {
-      next = on.next;
-      rest = on.rest;
-      whole_is = ap (λ l. y ∷ l) on.whole_is ∙ ap (λ z. z ∷ (made ++ on.next ∷ on.rest)) (sym same);
-      begins = on.begins;
-      ends = on.ends;
-    }
+next_ends s (m ∷ made) (y ∷ whole) b e (rest, p) = grind (arith, next_ends s made whole b e (rest, cc))

@@ -5,7 +5,7 @@ use Rattle.std.proofs.lemmas.List.{take-append-drop, take_more, take_at}
 use Rattle.bits_core.specs.declared.events.Side.TheVariants.{P, C}
 use Rattle.bits_core.specs.declared.events.Event.{Event}
 use Rattle.bits_core.specs.declared.faults.Kind.{Kind}
-use Rattle.bits_core.specs.declared.faults.Kind.TheVariants.{WrongSide, OutOfTurn, NotPermitted, NotProgram}
+use Rattle.bits_core.specs.declared.faults.Kind.TheVariants.{NotProgram}
 use Rattle.bits_core.specs.declared.shapes.Shape.{Shape}
 use Rattle.bits_core.specs.Audit.{IsFirstFault}
 use Rattle.bits_core.specs.Lawful.{IsLawful}
@@ -19,12 +19,10 @@ use Rattle.bits_core.proofs.LawLemmas.{beginning_is_lawful, fault_breaks}
 use Rattle.bits_core.proofs.OwnEvents.{subhistory-append}
 
 pub of_programs : (shape : Shape) (h : List Event) → IsLawful shape h → BothFollow shape h → IsOfPrograms shape h
-of_programs shape h lawful ((puts, are, events), (takes, are', events')) =
-    (puts, takes, record { lawful = lawful; puts_follow = record { are = are; events = events }; takes_follow = record { are = are'; events = events' } })
+of_programs shape h lawful ((puts, are, events), (takes, are', events')) = grind arith
 
 both_follow : (shape : Shape) (h : List Event) → IsOfPrograms shape h → BothFollow shape h
-both_follow shape h (puts, takes, run) =
-    ((puts, run.puts_follow.are, run.puts_follow.events), (takes, run.takes_follow.are, run.takes_follow.events))
+both_follow shape h (puts, takes, run) = grind arith
 
 pub lawful_take : (shape : Shape) (h : List Event) (n : ℕ) → IsLawful shape h → IsLawful shape (take n h)
 lawful_take shape h n lawful = beginning_is_lawful shape (take n h) (drop n h) (subst (IsLawful shape) (sym (take-append-drop n h)) lawful)
@@ -44,20 +42,13 @@ break_of_program of shape h i d same within before with_it follow breaks =
     }
 
 kind_at : (shape : Shape) (h : List Event) (place : ℕ) (kind : Kind) → IsFirstFault shape h place kind → IsKindAt shape h place kind
-kind_at shape h place WrongSide fault = fault
-kind_at shape h place OutOfTurn fault = fault
-kind_at shape h place NotPermitted fault = fault
-kind_at shape h place NotProgram fault = absurd fault.fault
+kind_at shape h place kind fault = grind arith
 
 -- if the bits are at fault first
 pub break_of_bits :
     (shape : Shape) (h : List Event) (place : ℕ) (kind : Kind) → IsFirstFault shape h place kind → BothFollow shape (take place h) → IsFirstBreak shape h place kind
-break_of_bits shape h place kind fault follow = record {
-  within = slice_get_within h place fault.event fault.at_place;
-  before = of_programs shape (take place h) (fault_breaks shape h place kind fault).0 follow;
-  breaks = λ runs. (fault_breaks shape h place kind fault).1 runs.2.lawful;
-  kind_is = kind_at shape h place kind fault;
-}
+break_of_bits shape h place kind fault follow =
+    grind (arith, slice_get_within h place fault.event fault.at_place, of_programs shape (take place h) (fault_breaks shape h place kind fault).0 follow, kind_at shape h place kind fault)
 
 -- ---- the finding
 
@@ -78,16 +69,7 @@ pub found :
 found shape r told put puts_so takes_so kept h lawful st =
     let p = puts_so (subhistory P h) st.items st.stored st.puts_stand in
     let t = takes_so (subhistory C h) r.taken st.takes_stand in
-    let items_are : put ≡ st.items =
-    kept ∙ ap (λ n. take n r.put) st.counted_is ∙ ap (take (length st.items)) st.put_is ∙ take_at st.items st.stored (length st.items) refl in
-    record {
-      puts = p.calls;
-      takes = t.calls;
-      run = record { lawful = lawful; puts_follow = record { are = p.are; events = p.events }; takes_follow = record { are = t.are; events = t.events } };
-      put_is = items_are ∙ p.put;
-      taken_is = t.taken;
-      told_is = t.told_is;
-    }
+    grind (arith, take_at)
 
 -- ---- exactly
 
@@ -99,15 +81,7 @@ begins_take s h n all (rest, e) = (
 
 -- a prefix of a history of the programs is of the programs
 pub programs_take : (shape : Shape) (h : List Event) (n : ℕ) → IsOfPrograms shape h → IsOfPrograms shape (take n h)
-programs_take shape h n (puts, takes, run) = (
-  puts,
-  takes,
-  record {
-    lawful = lawful_take shape h n run.lawful;
-    puts_follow = record { are = run.puts_follow.are; events = begins_take P h n _ run.puts_follow.events };
-    takes_follow = record { are = run.takes_follow.are; events = begins_take C h n _ run.takes_follow.events };
-  },
-)
+programs_take shape h n (puts, takes, run) = grind (arith, lawful_take, begins_take)
 
 pub exact_finding : (shape : Shape) (h : List Event) (f : Statement) → IsFinding shape h f → IsTrue (tells_lawful f) ↔ IsOfPrograms shape h
 exact_finding shape h (Lawful put taken told) found = (λ e. (found.puts, found.takes, found.run), λ runs. refl)

@@ -5,9 +5,9 @@ use Rattle.std.proofs.lemmas.List.{take_more, take-append-le}
 use Rattle.bits_core.specs.declared.events.Side.{Side}
 use Rattle.bits_core.specs.declared.events.Side.TheVariants.{P, C}
 use Rattle.bits_core.specs.declared.events.Bit.{Bit}
-use Rattle.bits_core.specs.declared.events.Bit.TheVariants.{S, R, X, Cell}
+use Rattle.bits_core.specs.declared.events.Bit.TheVariants.{R, Cell}
 use Rattle.bits_core.specs.declared.events.Act.{Act}
-use Rattle.bits_core.specs.declared.events.Act.TheVariants.{ReadBegin, ReadEnd, WriteBegin, WriteEnd}
+use Rattle.bits_core.specs.declared.events.Act.TheVariants.{WriteBegin}
 use Rattle.bits_core.specs.declared.events.Access.{Access}
 use Rattle.bits_core.specs.declared.events.Access.TheVariants as begins
 use Rattle.bits_core.specs.declared.events.Event.{Event}
@@ -71,71 +71,22 @@ follow_before shape h i d e within stops ((puts, are, events), (takes, are', eve
 -- ---- whether an event is another
 
 same_truth : (a b : Bool) → (a ≡ b) ⊎ (a ≢ b)
-same_truth true true = inl refl
-same_truth false false = inl refl
-same_truth true false = inr (λ same. (absurd (cc)))
-same_truth false true = inr (λ same. (absurd (cc)))
+same_truth a b = grind arith
 
 same_side : (s t : Side) → (s ≡ t) ⊎ (s ≢ t)
-same_side P P = inl refl
-same_side C C = inl refl
-same_side P C = inr (λ same. (absurd (cc)))
-same_side C P = inr (λ same. (absurd (cc)))
+same_side s t = grind arith
 
 one_of : (f : ℕ → Bit) (a b : ℕ) → (f a ≡ f b → a ≡ b) → (f a ≡ f b) ⊎ (f a ≢ f b)
-one_of f a b back = elim (cases_eq a b) [
-  | inl same ↦ inl (ap f same)
-  | inr other ↦ inr (λ same. other (back same))
-]
+one_of f a b back = grind (arith, cases_eq)
 
 same_bit : (b c : Bit) → (b ≡ c) ⊎ (b ≢ c)
-same_bit (S i) (S k) = one_of S i k (λ same. cc)
-same_bit (R i) (R k) = one_of R i k (λ same. cc)
-same_bit X X = inl refl
-same_bit (Cell j i) (Cell l k) =
-    elim (cases_eq j l) [
-      | inl row ↦ elim (cases_eq i k) [
-        | inl digit ↦ inl (ap (λ z. Cell z i) row ∙ ap (Cell l) digit)
-        | inr other ↦ inr (λ same. other (cc))
-      ]
-      | inr other ↦ inr (λ same. other (cc))
-    ]
-same_bit (S i) (R k) = inr (λ same. (absurd (cc)))
-same_bit (S i) X = inr (λ same. (absurd (cc)))
-same_bit (S i) (Cell l k) = inr (λ same. (absurd (cc)))
-same_bit (R i) (S k) = inr (λ same. (absurd (cc)))
-same_bit (R i) X = inr (λ same. (absurd (cc)))
-same_bit (R i) (Cell l k) = inr (λ same. (absurd (cc)))
-same_bit X (S k) = inr (λ same. (absurd (cc)))
-same_bit X (R k) = inr (λ same. (absurd (cc)))
-same_bit X (Cell l k) = inr (λ same. (absurd (cc)))
-same_bit (Cell j i) (S k) = inr (λ same. (absurd (cc)))
-same_bit (Cell j i) (R k) = inr (λ same. (absurd (cc)))
-same_bit (Cell j i) X = inr (λ same. (absurd (cc)))
+same_bit b c = grind (arith, one_of, cases_eq)
 
 one_act : (f : Bool → Act) (v w : Bool) → (f v ≡ f w → v ≡ w) → (f v ≡ f w) ⊎ (f v ≢ f w)
-one_act f v w back = elim (same_truth v w) [
-  | inl same ↦ inl (ap f same)
-  | inr other ↦ inr (λ same. other (back same))
-]
+one_act f v w back = grind (arith, same_truth)
 
 same_act : (a b : Act) → (a ≡ b) ⊎ (a ≢ b)
-same_act ReadBegin ReadBegin = inl refl
-same_act WriteEnd WriteEnd = inl refl
-same_act (ReadEnd v) (ReadEnd w) = one_act ReadEnd v w (λ same. cc)
-same_act (WriteBegin v) (WriteBegin w) = one_act WriteBegin v w (λ same. cc)
-same_act ReadBegin WriteEnd = inr (λ same. (absurd (cc)))
-same_act ReadBegin (ReadEnd w) = inr (λ same. (absurd (cc)))
-same_act ReadBegin (WriteBegin w) = inr (λ same. (absurd (cc)))
-same_act WriteEnd ReadBegin = inr (λ same. (absurd (cc)))
-same_act WriteEnd (ReadEnd w) = inr (λ same. (absurd (cc)))
-same_act WriteEnd (WriteBegin w) = inr (λ same. (absurd (cc)))
-same_act (ReadEnd v) ReadBegin = inr (λ same. (absurd (cc)))
-same_act (ReadEnd v) WriteEnd = inr (λ same. (absurd (cc)))
-same_act (ReadEnd v) (WriteBegin w) = inr (λ same. (absurd (cc)))
-same_act (WriteBegin v) ReadBegin = inr (λ same. (absurd (cc)))
-same_act (WriteBegin v) WriteEnd = inr (λ same. (absurd (cc)))
-same_act (WriteBegin v) (ReadEnd w) = inr (λ same. (absurd (cc)))
+same_act a b = grind (arith, one_act)
 
 event : Side → Bit → Act → Event
 event s b x = record { side = s; bit = b; act = x }
@@ -160,10 +111,7 @@ same_event e d =
 -- whether an event that may be there is this one
 pub is_event : (o : Option Event) (e : Event) → (o ≡ Some e) ⊎ (o ≢ Some e)
 is_event None e = inr (λ same. (absurd (cc)))
-is_event (Some d) e = elim (same_event d e) [
-  | inl same ↦ inl (ap Some same)
-  | inr other ↦ inr (λ same. other (cc))
-]
+is_event (Some d) e = grind (arith, same_event d e)
 
 -- a statement that each returned event satisfies, and each of these that satisfies it is returned
 pub all_told :
@@ -199,34 +147,20 @@ all_told shape h s candidates told first second third all e = (of_told, back)
 pub kept_in_order :
     (among told : Dues) → ((e : Event) → told.first ≡ Some e → among.first ≡ Some e) → ((e : Event) → told.second ≡ Some e → among.second ≡ Some e) →
     ((e : Event) → told.third ≡ Some e → among.third ≡ Some e) → AreInOrder among → AreInOrder told
-kept_in_order among told first second third order =
-    (λ e f is is'. order.0 e f (first e is) (second f is'), λ e f is is'. order.1 e f (first e is) (third f is'), λ e f is is'. order.2 e f (second e is) (third f is'))
+kept_in_order among told first second third order = grind arith
 
 pub in_order : (e f : Event) (one other : Option Event) → one ≡ Some e → other ≡ Some f → ComesBefore e f → ComeInOrder one other
-in_order e f one other is is' before e' f' told told' =
-    let same : e ≡ e' = cc in
-    let same' : f ≡ f' = cc in
-    subst (λ z. ComesBefore e' z) same' (subst (λ z. ComesBefore z f) same before)
+in_order e f one other is is' before e' f' told told' = grind arith
 
 -- two events in their order, and no third
 pub two_in_order : (e f : Event) (dues : Dues) → dues.first ≡ Some e → dues.second ≡ Some f → dues.third ≡ None → ComesBefore e f → AreInOrder dues
-two_in_order e f dues one other none before = (
-  in_order e f dues.first dues.second one other before,
-  λ e' f' is is'. (let clash : None ≡ Some f' = sym none ∙ is' in absurd (cc)),
-  λ e' f' is is'. (let clash : None ≡ Some f' = sym none ∙ is' in absurd (cc)),
-)
+two_in_order e f dues one other none before = grind (arith, in_order)
 
 -- a word's digits come before the count
 pub digits_in_order :
     (b : Bit) (j i : ℕ) (dues : Dues) → b ≡ Cell j i → dues.first ≡ Some (opening_event P (begins.Write b false)) → dues.second ≡ Some (opening_event P (begins.Write b true)) →
     ((e : Event) → dues.third ≡ Some e → act_rank e.bit e.act ≡ 2) → AreInOrder dues
-digits_in_order b j i dues cell zero one count =
-    let zero_rank : act_rank b (WriteBegin false) ≡ 0 = ap (λ z. act_rank z (WriteBegin false)) cell in
-    let one_rank : act_rank b (WriteBegin true) ≡ 1 = ap (λ z. act_rank z (WriteBegin true)) cell in (
-      in_order _ _ dues.first dues.second zero one (omega (arith, zero_rank, one_rank)),
-      λ e f is is'. in_order (opening_event P (begins.Write b false)) f dues.first dues.third zero is' (omega (arith, zero_rank, count f is')) e f is is',
-      λ e f is is'. in_order (opening_event P (begins.Write b true)) f dues.second dues.third one is' (omega (arith, one_rank, count f is')) e f is is',
-    )
+digits_in_order b j i dues cell zero one count = grind (arith, in_order)
 
 -- the write of a count's bit comes after them
 pub counts_last : (row : UnaryState) (due : Option Access) (told : Option Event) → row.side ≡ P → due ≡ due_unary row → ((a : Access) → due ≡ Some a → told ≡ Some (opening_event P a)) →
@@ -276,8 +210,7 @@ stops_here of shape h i d e same within stops = follow_before shape h i d e with
 pub decides :
     (of shape : Shape) (h : List Event) (e : Event) (on : Bool) → of ≡ shape → (on ≡ true → BothFollow of (h ++ e ∷ [])) → (on ≡ false → BothFollow of (h ++ e ∷ []) → ⊥) →
     IsTrue on ↔ GoesOnBehind shape h e
-decides of shape h e true same goes never = (λ t. subst (λ s. GoesOnBehind s h e) same (goes refl), λ on. refl)
-decides of shape h e false same goes never = (λ t. absurd (cc), λ on. absurd (never refl (subst (λ s. GoesOnBehind s h e) (sym same) on)))
+decides of shape h e on same goes never = grind arith
 
 -- what readers that stand after the events return, for their own shape
 pub dues_behind :

@@ -1,15 +1,15 @@
 -- A history has one finding.
-use Rattle.std.proofs.Common.{◌≡◌, ◌⊎◌, inl, inr, ℕ, suc, ◌<◌, Bool, true, false, IsTrue, List, take, refl, sym, ap₂, subst, ◌∙◌, arith}
+use Rattle.std.proofs.Common.{◌≡◌, ◌⊎◌, inl, inr, ℕ, suc, ◌<◌, Bool, IsTrue, List, take, sym, ◌∙◌, arith}
 use Rattle.std.proofs.lemmas.Bool.{cases_order}
 use Rattle.std.proofs.lemmas.List.{take-take}
 use Rattle.bits_core.specs.declared.events.Event.{Event}
 use Rattle.bits_core.specs.declared.faults.Kind.{Kind}
-use Rattle.bits_core.specs.declared.faults.Kind.TheVariants.{WrongSide, OutOfTurn, NotPermitted, NotProgram}
+use Rattle.bits_core.specs.declared.faults.Kind.TheVariants.{NotProgram}
 use Rattle.bits_core.specs.declared.audits.Verdict.TheVariants as bits
 use Rattle.bits_core.specs.declared.shapes.Shape.{Shape}
 use Rattle.bits_core.specs.Audit.{IsFirstFault}
 use Rattle.bits_core.specs.Lawful.{IsLawful}
-use Rattle.ring_audit.specs.Audit.{IsOfPrograms, IsFound, IsKindAt, IsFirstBreak, Lawful, Fault, OneFinding}
+use Rattle.ring_audit.specs.Audit.{IsFound, IsKindAt, IsFirstBreak, Lawful, Fault, OneFinding}
 use Rattle.ring_audit.proofs.Breaks.{programs_take}
 use Rattle.bits_core.proofs.LawLemmas.{fault_breaks, one_verdict}
 use Rattle.ring_core.proofs.LawLemmas.{items_put_are_read, items_taken_are_read}
@@ -17,9 +17,7 @@ use Rattle.ring_core.proofs.LawLemmas.{items_put_are_read, items_taken_are_read}
 -- ---- what was put and taken, and whether a take returned Closed
 
 same_truth : (a b : Bool) → (IsTrue a → IsTrue b) → (IsTrue b → IsTrue a) → a ≡ b
-same_truth true b on back = sym (on refl)
-same_truth false true on back = back refl
-same_truth false false on back = refl
+same_truth a b on back = grind arith
 
 one_found :
     (shape : Shape) (h : List Event) (put taken put' taken' : List ℕ) (told told' : Bool) → IsFound shape h put taken told →
@@ -28,24 +26,18 @@ one_found shape h put taken put' taken' told told' f g =
     let same_put : put ≡ put' = f.put_is ∙ items_put_are_read shape h f.puts g.puts f.run.puts_follow g.run.puts_follow ∙ sym g.put_is in
     let (there, on) = items_taken_are_read shape h f.takes g.takes f.run.takes_follow g.run.takes_follow in
     let (back, on') = items_taken_are_read shape h g.takes f.takes g.run.takes_follow f.run.takes_follow in
-    let same_taken : taken ≡ taken' = f.taken_is ∙ there ∙ sym g.taken_is in
-    let same_told : told ≡ told' = same_truth told told' (λ e. g.told_is.1 (on (f.told_is.0 e))) (λ e. f.told_is.1 (on' (g.told_is.0 e))) in
-    cc
+    grind (arith, same_truth)
 
 -- ---- the place and its kind
 
 -- no place is before another
 not_before :
     (shape : Shape) (h : List Event) (p q : ℕ) (k l : Kind) → IsFirstBreak shape h p k → IsFirstBreak shape h q l → p < q → ⊥
-not_before shape h p q k l f g below =
-    f.breaks (subst (IsOfPrograms shape) (take-take (suc p) q h (omega (arith, below))) (programs_take shape (take q h) (suc p) g.before))
+not_before shape h p q k l f g below = grind (arith, take-take (suc p) q h (omega (arith, below)), programs_take shape (take q h) (suc p) g.before)
 
 -- a fault is the program's if the bits are lawful, otherwise that of the bits
 of_kind : (shape : Shape) (h : List Event) (place : ℕ) (k : Kind) → IsKindAt shape h place k → (IsLawful shape (take (suc place) h) × (k ≡ NotProgram)) ⊎ IsFirstFault shape h place k
-of_kind shape h place NotProgram is = inl (is, refl)
-of_kind shape h place WrongSide is = inr is
-of_kind shape h place OutOfTurn is = inr is
-of_kind shape h place NotPermitted is = inr is
+of_kind shape h place k is = grind arith
 
 one_kind : (shape : Shape) (h : List Event) (place : ℕ) (k l : Kind) → IsKindAt shape h place k → IsKindAt shape h place l → k ≡ l
 one_kind shape h place k l is is' = by_kinds (of_kind shape h place k is) (of_kind shape h place l is')
@@ -61,14 +53,7 @@ one_kind shape h place k l is is' = by_kinds (of_kind shape h place k is) (of_ki
 one_break :
     (shape : Shape) (h : List Event) (p q : ℕ) (k l : Kind) → IsFirstBreak shape h p k → IsFirstBreak shape h q l →
     Fault p k ≡ Fault q l
-one_break shape h p q k l f g =
-    elim (cases_order p q) [
-      | inl same ↦ ap₂ Fault same (one_kind shape h q k l (subst (λ n. IsKindAt shape h n k) same f.kind_is) g.kind_is)
-      | inr other ↦ elim other [
-        | inl below ↦ absurd (not_before shape h p q k l f g below)
-        | inr above ↦ absurd (not_before shape h q p l k g f above)
-      ]
-    ]
+one_break shape h p q k l f g = grind (arith, one_kind, not_before, cases_order p q)
 
 -- ---- both
 
@@ -77,8 +62,4 @@ never_both :
 never_both shape h put taken told place kind f g = g.breaks (programs_take shape h (suc place) (f.puts, f.takes, f.run))
 
 pub one_finding : OneFinding
-one_finding shape h (Lawful put taken told) (Lawful put' taken' told') f g =
-    one_found shape h put taken put' taken' told told' f g
-one_finding shape h (Fault p k) (Fault q l) f g = one_break shape h p q k l f g
-one_finding shape h (Lawful put taken told) (Fault p k) f g = absurd (never_both shape h put taken told p k f g)
-one_finding shape h (Fault p k) (Lawful put taken told) f g = absurd (never_both shape h put taken told p k g f)
+one_finding shape h h1 h2 f g = grind (arith, one_found, one_break, never_both)

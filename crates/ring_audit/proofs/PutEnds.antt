@@ -12,7 +12,7 @@ use Rattle.bits_core.specs.declared.shapes.Shape.{Shape}
 use Rattle.bits_core.specs.Shape.{AllFit, capacity_of, modulus_of, width_of}
 use Rattle.bits_core.specs.Made.{Made, Read, Write, access_of, end_event, events_of, IsPrefix, opening_event}
 use Rattle.register_core.specs.Row.{RowWrite, row_bit, writes_in}
-use Rattle.register_core.specs.Word.{digit, digit_writes, word_write, word_read}
+use Rattle.register_core.specs.Word.{digit_writes}
 use Rattle.register_core.specs.WordState.{ReaderStands, BeginsRead, IsNextRead, due_read}
 use Rattle.register_core.specs.UnaryState.{due_writes}
 use Rattle.register_core.specs.ScanState.{zero_reads, scan_phrase, row_read_by, due_scan}
@@ -24,7 +24,7 @@ use Rattle.ring_audit.specs.declared.puts.Stage.{Stage}
 use Rattle.ring_audit.specs.declared.puts.Stage.TheVariants.{Resting, Scanning, Choosing, Storing, Counting, Closing, Closed}
 use Rattle.ring_audit.specs.Sides.{open_events}
 use Rattle.ring_audit.specs.PutReading.{PutReading, IsPutReading, IsReaderAt, IsMost, InCount, PutsStand, WerePut}
-use Rattle.ring_core.proofs.CountRow.{batch_by_below, batch_long, counted_is_count, first_is_count, has_batch}
+use Rattle.ring_core.proofs.CountRow.{batch_by_below, batch_long, counted_is_count, first_is_count}
 use Rattle.ring_core.proofs.Machines.Following.{events_of-append, length-events}
 use Rattle.ring_core.proofs.Machines.NextParts.{scan_due}
 use Rattle.ring_core.proofs.Machines.PutCalls.{phrases-push, are-push}
@@ -60,24 +60,9 @@ items-behind shape c (Stored seen items ∷ xs) ys t (some, all) l =
     let here : ℕ = events_in (put_phrase shape c x) in
     let there : ℕ = events_in (put_phrases shape d xs) in
     let both : events_in (put_phrases shape c (x ∷ xs)) ≡ here + there = events_in-append (put_phrase shape c x) (put_phrases shape d xs) in
-    let parts : here ≡ events_in (accesses_before_count shape c.number seen items) + events_in (batch_phrase shape P c items) =
-    events_in-append (accesses_before_count shape c.number seen items) (batch_phrase shape P c items) in
-    let rest : items_put shape d (xs ++ ys) (t - here) ≡ all_put xs ++ items_put shape (stored_count shape d xs) ys ((t - here) - there) =
-    items-behind shape d xs ys (t - here) all (omega (arith, l, both)) in
-    let left : (t - here) - there ≡ t - events_in (put_phrases shape c (x ∷ xs)) = omega (arith, both) in
-    let last : List ℕ = items_put shape (stored_count shape d xs) ys (t - events_in (put_phrases shape c (x ∷ xs))) in
-    begun_items shape c seen items (items_put shape d (xs ++ ys) (t - here)) t (omega (arith, l, both, parts, some))
-    ∙ ap (λ z. items ++ z) (rest ∙ ap (λ n. all_put xs ++ items_put shape (stored_count shape d xs) ys n) left)
-    ∙ sym (append_assoc items (all_put xs) last)
+    grind (arith, events_in-append, begun_items, append_assoc, items-behind shape d xs ys (t - here) all (omega (arith, l, both)))
 items-behind shape c (Full seen ∷ xs) ys t all l =
-    let x : Put = Full seen in
-    let here : ℕ = events_in (put_phrase shape c x) in
-    let there : ℕ = events_in (put_phrases shape c xs) in
-    let both : events_in (put_phrases shape c (x ∷ xs)) ≡ here + there = events_in-append (put_phrase shape c x) (put_phrases shape c xs) in
-    let rest : items_put shape c (xs ++ ys) (t - here) ≡ all_put xs ++ items_put shape (stored_count shape c xs) ys ((t - here) - there) =
-    items-behind shape c xs ys (t - here) all (omega (arith, l, both)) in
-    let left : (t - here) - there ≡ t - events_in (put_phrases shape c (x ∷ xs)) = omega (arith, both) in
-    rest ∙ ap (λ n. all_put xs ++ items_put shape (stored_count shape c xs) ys n) left
+    grind (arith, events_in-append, items-behind shape c xs ys (t - (events_in (put_phrase shape c (Full seen)))) all (omega (arith, l, (events_in-append (put_phrase shape c (Full seen)) (put_phrases shape c xs)))))
 
 -- a put whose count write has not begun has put nothing, and one whose count write has begun has put its items
 late : (shape : Shape) (c : Count) (seen : ℕ) (items : List ℕ) (t : ℕ) → t ≤ events_in (accesses_before_count shape c.number seen items) → items_put shape c (Stored seen items ∷ []) t ≡ []
@@ -159,20 +144,14 @@ by_put shape r es items stored st x part rest more is_put items_are made_is phra
       are = are-push shape first_count st.puts x st.are is_put;
       events = subst (λ l. IsPrefix l (events_of P (put_phrases shape first_count (st.puts ++ x ∷ []) ++ []))) (sym st.events_are)
           (subst (λ l. IsPrefix (events_of P st.made ++ open_events P r.open_access) (events_of P l)) (sym program) (begins_so st.made rest r.open_access opens));
-      put = items_are ∙ ap (λ l. all_put st.puts ++ l) (sym (put_so (length es - events_in front) refl))
-          ∙ sym (items-behind shape first_count st.puts (x ∷ []) (length es) (all_count shape first_count st.puts (first_is_count shape) st.are) reached);
+      put = grind (arith, items-behind, all_count);
     }
 
 -- the moment, after the puts that have ended
 moment :
     (shape : Shape) (r : PutReading) (es : List Event) (items stored : List ℕ) (st : PutsStand shape r es items stored) (part : List Made) (t : ℕ) →
     st.made ≡ put_phrases shape first_count st.puts ++ part → t ≡ length es - events_in (put_phrases shape first_count st.puts) → (events_in part ≤ t) × (t ≤ suc (events_in part))
-moment shape r es items stored st part t made_is e =
-    let front : List Made = put_phrases shape first_count st.puts in
-    let upper : length es ≤ suc (2 * length st.made) = subst (λ l. length l ≤ suc (2 * length st.made)) (sym st.events_are) (open-short P st.made r.open_access) in
-    let lower : 2 * length st.made ≤ length es = subst (λ l. 2 * length st.made ≤ length l) (sym st.events_are) (open-long P st.made r.open_access) in
-    let long : length st.made ≡ length front + length part = ap length made_is ∙ length-append front part in
-    (omega (arith, lower, long, e), omega (arith, upper, long, e))
+moment shape r es items stored st part t made_is e = grind (arith, open-short, open-long, length-append)
 
 scanning_put : (shape : Shape) (r : PutReading) (es : List Event) (items stored : List ℕ) → PutsStand shape r es items stored → r.stage ≡ Scanning → IsReaderAt Scanning r → WerePut shape es items
 scanning_put shape r es items stored st stage (idle, scans, some, due) =
@@ -188,8 +167,7 @@ scanning_put shape r es items stored st stage (idle, scans, some, due) =
     elim (room_or_none shape (c.number % modulus_of shape) z) [
       | inl room ↦
           let tail : List Made = words_phrase shape c.number (0 ∷ []) ++ batch_phrase shape P c (0 ∷ []) in
-          let is_put : IsPut shape c.number (Stored z (0 ∷ [])) =
-          (below, omega (arith, room), record { some = omega arith; few = omega (arith, has_batch shape); fit = (pow_pos (width_of shape), record {}) }) in
+          let is_put : IsPut shape c.number (Stored z (0 ∷ [])) = grind (arith, pow_pos) in
           by_put shape r es items stored st (Stored z (0 ∷ [])) zeros (here ∷ tail) [] is_put items_are made_is
           (append_assoc (zeros ++ here ∷ []) (words_phrase shape c.number (0 ∷ [])) (batch_phrase shape P c (0 ∷ [])) ∙ append_assoc zeros (here ∷ []) tail)
           (opens_here tail)
@@ -219,18 +197,7 @@ storing_phrase :
     put_phrase shape c (Stored seen (stored ++ item ∷ [])) ≡
     (scan_phrase (row_read_by P) seen ++ (words_phrase shape c.number stored ++ writes_in (Cell (number_past c.number stored % capacity_of shape)) first)) ++
     (writes_in (Cell (number_past c.number stored % capacity_of shape)) second ++ batch_phrase shape P c (stored ++ item ∷ []))
-storing_phrase shape c seen stored item first second e =
-    let scan : List Made = scan_phrase (row_read_by P) seen in
-    let words : List Made = words_phrase shape c.number stored in
-    let cell : ℕ = number_past c.number stored % capacity_of shape in
-    let count : List Made = batch_phrase shape P c (stored ++ item ∷ []) in
-    let a : List Made = writes_in (Cell cell) first in
-    let b : List Made = writes_in (Cell cell) second in
-    ap (λ l. (scan ++ l) ++ count) (words-push shape c.number stored item)
-    ∙ ap (λ ws. (scan ++ (words ++ writes_in (Cell cell) ws)) ++ count) e
-    ∙ ap (λ l. (scan ++ (words ++ l)) ++ count) (map-append (λ (z : RowWrite). Write (Cell cell z.bit) z.value) first second)
-    ∙ ap (λ l. (scan ++ l) ++ count) (sym (append_assoc words a b)) ∙ ap (λ l. l ++ count) (sym (append_assoc scan (words ++ a) b))
-    ∙ append_assoc (scan ++ (words ++ a)) b count
+storing_phrase shape c seen stored item first second e = grind (arith, words-push, map-append, append_assoc)
 
 -- after it comes nothing of the count write
 late_word :
@@ -238,25 +205,10 @@ late_word :
     digit_writes item (width_of shape) ≡ first ++ second → 1 ≤ length second →
     part ≡ scan_phrase (row_read_by P) seen ++ (words_phrase shape c.number stored ++ writes_in (Cell (number_past c.number stored % capacity_of shape)) first) →
     items_put shape c (Stored seen (stored ++ item ∷ []) ∷ []) t ≡ []
-late_word shape c seen stored item t part behind_it first second high e some part_is =
-    let cell : ℕ = number_past c.number stored % capacity_of shape in
-    let scan : List Made = scan_phrase (row_read_by P) seen in
-    let words : List Made = words_phrase shape c.number stored in
-    let head : List Made = accesses_before_count shape c.number seen (stored ++ item ∷ []) in
-    let w1 : length (writes_in (Cell cell) first) ≡ length first = length-map first (λ (z : RowWrite). Write (Cell cell z.bit) z.value) in
-    let w2 : length (word_write (width_of shape) cell item) ≡ length (digit_writes item (width_of shape)) =
-    length-map (digit_writes item (width_of shape)) (λ (z : RowWrite). Write (Cell cell z.bit) z.value) in
-    let w3 : length (digit_writes item (width_of shape)) ≡ length first + length second = ap length e ∙ length-append first second in
-    let h1 : length head ≡ length scan + length (words_phrase shape c.number (stored ++ item ∷ [])) = length-append scan (words_phrase shape c.number (stored ++ item ∷ [])) in
-    let h2 : length (words_phrase shape c.number (stored ++ item ∷ [])) ≡ length words + length (word_write (width_of shape) cell item) =
-    ap length (words-push shape c.number stored item) ∙ length-append words (word_write (width_of shape) cell item) in
-    let p1 : length part ≡ length scan + length (words ++ writes_in (Cell cell) first) = ap length part_is ∙ length-append scan (words ++ writes_in (Cell cell) first) in
-    let p2 : length (words ++ writes_in (Cell cell) first) ≡ length words + length (writes_in (Cell cell) first) = length-append words (writes_in (Cell cell) first) in
-    late shape c seen (stored ++ item ∷ []) t (omega (arith, high, some, w1, w2, w3, h1, h2, p1, p2))
+late_word shape c seen stored item t part behind_it first second high e some part_is = grind (arith, length-map, length-append, words-push, late)
 
 some_digits : (item w : ℕ) → 0 < w → 1 ≤ length (digit_writes item w)
-some_digits item zero l = absurd (omega (arith, l))
-some_digits item (suc w) l = omega (arith, length-append (digit_writes item w) (record { bit = w; value = digit w item } ∷ []))
+some_digits item w l = grind (arith, length-append)
 
 choosing_put : (shape : Shape) (r : PutReading) (es : List Event) (items stored : List ℕ) → PutsStand shape r es items stored → r.stage ≡ Choosing → IsReaderAt Choosing r → WerePut shape es items
 choosing_put shape r es items stored st stage (none, idle) =
@@ -268,8 +220,7 @@ choosing_put shape r es items stored st stage (none, idle) =
     let items_are : items ≡ all_put st.puts ++ [] = s.items_are ∙ sym (append-nil (all_put st.puts)) in
     elim (zero_or_more r.room) [
       | inl no_room ↦
-          let is_put : IsPut shape c.number (Stored s.seen stored) =
-          (s.may.below, omega (arith, s.may.room), record { some = omega (arith, s.may.some, no_room); few = omega (arith, s.may.few); fit = s.fit }) in
+          let is_put : IsPut shape c.number (Stored s.seen stored) = grind arith in
           let rest : List Made = batch_phrase shape P c stored in
           let es_is : length es ≡ 2 * length st.made = ap length (at_rest P es st.made r.open_access st.events_are none) ∙ length-events P st.made in
           by_put shape r es items stored st (Stored s.seen stored) (scan ++ words) rest [] is_put items_are made_is refl (none_opens r.open_access rest none)
@@ -307,9 +258,7 @@ storing_put shape r es items stored st stage (idle, width_is, cell_same, below, 
     let items_are : items ≡ all_put st.puts ++ [] = s.items_are ∙ sym (append-nil (all_put st.puts)) in
     let (item, fits, (later, e)) = goes reads stands in
     let width_so : r.word.width ≡ width_of shape = width_is ∙ ap width_of st.shape_is in
-    let digits : digit_writes item (width_of shape) ≡ first ++ here ∷ map as_write later =
-    digits_of r.word.cell item (width_of shape) n r.word.value v later
-    (ap (λ l. (l ++ Read (Cell r.word.cell n) v ∷ []) ++ later) (sym stands.made_is) ∙ e ∙ ap (λ w. word_read w r.word.cell item) width_so) in
+    let digits : digit_writes item (width_of shape) ≡ first ++ here ∷ map as_write later = grind (arith, digits_of) in
     let part : List Made = scan ++ (words ++ writes_in (Cell r.cell) first) in
     let part_is : part ≡ scan ++ (words ++ writes_in (Cell cell) first) = ap (λ j. scan ++ (words ++ writes_in (Cell j) first)) s.cell_is in
     let tail : List Made = writes_in (Cell cell) (map as_write later) ++ batch_phrase shape P c (stored ++ item ∷ []) in
@@ -328,10 +277,7 @@ counting_put shape r es items stored st stage side (due, opened) =
     let words : List Made = words_phrase shape c.number s.batch in
     let bits : List Made = writes_in (row_bit P) s.writes in
     let rest : List Made = writes_in (row_bit P) (due_writes r.row) in
-    let phrase : put_phrase shape c (Stored s.seen s.batch) ≡ (scan ++ (words ++ bits)) ++ rest =
-    ap (λ ws. (scan ++ words) ++ writes_in (row_bit P) ws) s.parts
-    ∙ ap (λ l. (scan ++ words) ++ l) (map-append (λ (z : RowWrite). Write (row_bit P z.bit) z.value) s.writes (due_writes r.row))
-    ∙ sym (append_assoc (scan ++ words) bits rest) ∙ ap (λ l. l ++ rest) (append_assoc scan words bits) in
+    let phrase : put_phrase shape c (Stored s.seen s.batch) ≡ (scan ++ (words ++ bits)) ++ rest = grind (arith, map-append, append_assoc) in
     by_put shape r es items stored st (Stored s.seen s.batch) (scan ++ (words ++ bits)) rest s.batch s.is_put s.items_are made_is phrase
     (λ a o.
     (let (w, more, due_are, is) = first_of r.row a side (opened a o) in

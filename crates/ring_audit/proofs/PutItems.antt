@@ -12,9 +12,9 @@ use Rattle.bits_core.specs.declared.shapes.Shape.{Shape}
 use Rattle.bits_core.specs.Shape.{capacity_of, modulus_of, width_of}
 use Rattle.bits_core.specs.Made.{Made, Read, Write, answered, end_event}
 use Rattle.register_core.specs.Row.{RowWrite, row_bit, first_bits, bits_with, bits_after, writes_in}
-use Rattle.register_core.specs.Word.{digit, digit_writes, digit_reads, word_write, word_read}
+use Rattle.register_core.specs.Word.{digit_writes, digit_reads, word_write, word_read}
 use Rattle.register_core.specs.WordState.{ReaderState, ReaderStands, read_digit}
-use Rattle.register_core.specs.UnaryState.{UnaryState, due_writes, due_unary, first_access, UnaryStands}
+use Rattle.register_core.specs.UnaryState.{UnaryState, due_writes, due_unary, UnaryStands}
 use Rattle.register_core.specs.ScanState.{scan_phrase, row_read_by}
 use Rattle.ring_core.specs.Counts.{number_past, Count, first_count, count_bits, batch_phrase}
 use Rattle.ring_core.specs.Puts.{Put, Stored, stored_after, words_phrase, put_phrases}
@@ -42,8 +42,7 @@ as_write (Write b v) = record { bit = number_of b; value = v }
 reads_as_writes : (cell a n : ℕ) → map as_write (digit_reads cell a n) ≡ digit_writes a n
 unfolding as_write number_of
 reads_as_writes cell a zero = refl
-reads_as_writes cell a (suc n) =
-    map-append as_write (digit_reads cell a n) (Read (Cell cell n) (digit n a) ∷ []) ∙ ap (λ l. l ++ record { bit = n; value = digit n a } ∷ []) (reads_as_writes cell a n)
+reads_as_writes cell a (suc n) = grind (arith, map-append, as_write, reads_as_writes cell a n)
 
 -- one more digit
 more_digits :
@@ -69,11 +68,7 @@ digits_of cell item w n value v later e =
 writes-push :
     (bit_of : ℕ → Bit) (front scan words : List Made) (ws : List RowWrite) (w : RowWrite) →
     (front ++ (scan ++ (words ++ writes_in bit_of ws))) ++ Write (bit_of w.bit) w.value ∷ [] ≡ front ++ (scan ++ (words ++ writes_in bit_of (ws ++ w ∷ [])))
-writes-push bit_of front scan words ws w =
-    let here : List Made = Write (bit_of w.bit) w.value ∷ [] in
-    let behind : List Made = writes_in bit_of ws in
-    append_assoc front (scan ++ (words ++ behind)) here ∙ ap (λ l. front ++ l) (append_assoc scan (words ++ behind) here) ∙ ap (λ l. front ++ (scan ++ l)) (append_assoc words behind here)
-    ∙ ap (λ l. front ++ (scan ++ (words ++ l))) (sym (map-append (λ (z : RowWrite). Write (bit_of z.bit) z.value) ws (w ∷ [])))
+writes-push bit_of front scan words ws w = grind (arith, append_assoc, map-append)
 
 -- the accesses once a digit has been written
 written :
@@ -94,9 +89,7 @@ written shape r es items stored st word a v w is cell stage fed goes =
     let stands_on : ReaderStands word (reads ++ Read (Cell r.word.cell n) w ∷ []) = goes reads stands in
     let read_is : word.read ≡ suc n = ap (λ (z : ReaderState). z.read) fed in
     let cell_is : word.cell ≡ r.word.cell = ap (λ (z : ReaderState). z.cell) fed in
-    let both : digit_reads r.word.cell r.word.value n ++ Read (Cell r.word.cell n) w ∷ [] ≡ digit_reads r.word.cell word.value (suc n) =
-    ap (λ l. l ++ Read (Cell r.word.cell n) w ∷ []) (sym stands.made_is) ∙ stands_on.made_is ∙ ap (λ k. digit_reads word.cell word.value k) read_is
-    ∙ ap (λ j. digit_reads j word.value (suc n)) cell_is in
+    let both : digit_reads r.word.cell r.word.value n ++ Read (Cell r.word.cell n) w ∷ [] ≡ digit_reads r.word.cell word.value (suc n) = grind arith in
     let more : digit_writes r.word.value n ++ record { bit = n; value = w } ∷ [] ≡ digit_writes word.value word.read =
     more_digits r.word.cell r.word.value word.value n w both ∙ ap (digit_writes word.value) (sym read_is) in (
       s,
@@ -123,9 +116,7 @@ past-push n (y ∷ l) x = past-push (suc n) l x
 pub words-push :
     (shape : Shape) (n : ℕ) (l : List ℕ) (x : ℕ) → words_phrase shape n (l ++ x ∷ []) ≡ words_phrase shape n l ++ word_write (width_of shape) (number_past n l % capacity_of shape) x
 words-push shape n [] x = append-nil (word_write (width_of shape) (n % capacity_of shape) x)
-words-push shape n (y ∷ l) x =
-    let word : List Made = word_write (width_of shape) (n % capacity_of shape) y in
-    ap (λ z. word ++ z) (words-push shape (suc n) l x) ∙ sym (append_assoc word (words_phrase shape (suc n) l) (word_write (width_of shape) (number_past (suc n) l % capacity_of shape) x))
+words-push shape n (y ∷ l) x = grind (arith, append_assoc, words-push shape (suc n) l x)
 
 has-push : (l : List ℕ) (x : ℕ) → has_items (l ++ x ∷ []) ≡ true
 has-push [] x = refl
@@ -187,14 +178,7 @@ row_on row new bits w a v h is due goes = record {
 }
 
 pub first_of : (row : UnaryState) (a : Access) → row.side ≡ P → due_unary row ≡ Some a → (w : RowWrite) × (more : List RowWrite) × (due_writes row ≡ w ∷ more) × (a ≡ begins.Write (S w.bit) w.value)
-first_of row a side due = by_writes (due_writes row) refl
-  where
-    by_writes : (ws : List RowWrite) → due_writes row ≡ ws → (w : RowWrite) × (more : List RowWrite) × (due_writes row ≡ w ∷ more) × (a ≡ begins.Write (S w.bit) w.value)
-    by_writes [] e = let clash : None ≡ Some a = sym (ap (first_access (row_bit row.side)) e) ∙ due in absurd (cc)
-    by_writes (w ∷ more) e =
-        let both : Some (begins.Write (S w.bit) w.value) ≡ Some a =
-        ap (λ s. Some (begins.Write (row_bit s w.bit) w.value)) (sym side) ∙ sym (ap (first_access (row_bit row.side)) e) ∙ due in
-        (w, more, e, cc)
+first_of row a side due = grind arith
 
 begun_by_one : (ws : List RowWrite) (w : RowWrite) → (u : RowWrite) × (more : List RowWrite) × (ws ++ w ∷ [] ≡ u ∷ more)
 begun_by_one [] w = (w, [], refl)
@@ -235,11 +219,7 @@ ends_bit shape r es items stored row a v st some stage side due left goes =
     ended_so st a v Counting st.puts some st.are st.count_is refl refl stage (counted_on shape r es items stored st row a v stage side due left goes)
 
 no_writes : (row : UnaryState) → due_unary row ≡ None → due_writes row ≡ []
-no_writes row none = by_writes (due_writes row) refl
-  where
-    by_writes : (ws : List RowWrite) → due_writes row ≡ ws → ws ≡ []
-    by_writes [] e = refl
-    by_writes (w ∷ more) e = let clash : None ≡ Some (begins.Write (row_bit row.side w.bit) w.value) = sym none ∙ ap (first_access (row_bit row.side)) e in absurd (cc)
+no_writes row none = grind arith
 
 pub ends_count :
     (shape : Shape) (r : PutReading) (es : List Event) (items stored : List ℕ) (row : UnaryState) (a : Access) (v : Bool) → PutsStand shape r es items stored → r.open_access ≡ Some a →

@@ -3,13 +3,13 @@ use Rattle.std.proofs.Common.{◌≡◌, ◌≢◌, inl, inr, ℕ, zero, suc, �
 use Rattle.std.proofs.Math.Path.{fun_ext}
 use Rattle.std.proofs.lemmas.Bool.Decides.{nat_tests}
 use Rattle.bits_core.specs.declared.events.Side.TheVariants.{P}
-use Rattle.bits_core.specs.declared.events.Bit.TheVariants.{S, X, Cell}
+use Rattle.bits_core.specs.declared.events.Bit.TheVariants.{X, Cell}
 use Rattle.bits_core.specs.declared.events.Access.{Access}
 use Rattle.bits_core.specs.declared.events.Access.TheVariants as begins
 use Rattle.bits_core.specs.declared.events.Event.{Event}
 use Rattle.bits_core.specs.declared.shapes.Shape.{Shape}
 use Rattle.bits_core.specs.Shape.{capacity_of, modulus_of, width_of}
-use Rattle.bits_core.specs.Made.{Made, Read, Write, access_of, answered, begin_event, end_event, events_of, opening_event}
+use Rattle.bits_core.specs.Made.{Made, Read, access_of, answered, end_event, events_of, opening_event}
 use Rattle.register_core.specs.Row.{RowWrite, row_bit, first_bits, bits_after, writes_in}
 use Rattle.register_core.specs.Word.{digit_writes}
 use Rattle.register_core.specs.WordState.{ReaderState, ReaderStands, read_digit, due_read}
@@ -25,12 +25,11 @@ use Rattle.ring_audit.specs.declared.puts.Stage.{Stage}
 use Rattle.ring_audit.specs.declared.puts.Stage.TheVariants.{Resting, Scanning, Choosing, Storing, Counting, Closed}
 use Rattle.ring_audit.specs.Sides.{AreOfPuts, told_of}
 use Rattle.ring_audit.specs.PutReading.{PutReading, IsPutReading, HasReadPut, IsReaderAt, RowHolds, IsMost, has_items, MadeWhile, PutsStand}
-use Rattle.ring_core.proofs.Readings.Phrases.{same_made}
 use Rattle.ring_core.proofs.Machines.Following.{events_of-append}
-use Rattle.ring_core.proofs.Machines.GoingOn.{access_back}
 use Rattle.ring_core.proofs.Machines.NextParts.{scan_due}
 use Rattle.ring_audit.proofs.Readers as readers
-use Rattle.ring_audit.proofs.Beginnings.{begin_is, same_access, GoesOnWith, GoesOnBy}
+pub use Rattle.ring_audit.proofs.Readers.{same_open}
+use Rattle.ring_audit.proofs.Beginnings.{same_access, GoesOnWith}
 pub use Rattle.ring_core.proofs.Machines.ConsumerNext.{read_due}
 use Rattle.ring_core.proofs.LawLemmas.{calls_are_first_puts, last_reads_are_one_puts, puts_go_on_between, puts_go_on_counts, puts_go_on_digits, puts_go_on_scans, puts_go_on_words}
 
@@ -40,11 +39,6 @@ rest_on :
     (of_puts : AreOfPuts shape (es ++ e ∷ [])) → GoesOnWith P st.made (put_program shape of_puts.0) e
 rest_on shape r es items stored st e none (calls, are, begins) = readers.rest_on P es st.made (put_program shape calls) r.open_access e st.events_are none begins
 
-work_on :
-    (shape : Shape) (r : PutReading) (es : List Event) (items stored : List ℕ) (st : PutsStand shape r es items stored) (a : Access) (e : Event) → r.open_access ≡ Some a →
-    (of_puts : AreOfPuts shape (es ++ e ∷ [])) → GoesOnBy P st.made (put_program shape of_puts.0) (opening_event P a) e
-work_on shape r es items stored st a e some (calls, are, begins) = readers.work_on P es st.made (put_program shape calls) r.open_access a e st.events_are some begins
-
 -- ---- when it stops
 
 -- a 0 of the last bit
@@ -52,15 +46,10 @@ pub zero_at_last :
     (shape : Shape) (r : PutReading) (es : List Event) (items stored : List ℕ) (a : Access) → PutsStand shape r es items stored → r.open_access ≡ Some a →
     IsScanning P (modulus_of shape) r.scan → due_scan r.scan ≡ Some a → LastIsDue r.scan → AreOfPuts shape (es ++ end_event P (answered a false) ∷ []) → ⊥
 zero_at_last shape r es items stored a st some scans due last of_puts =
-    let on = work_on shape r es items stored st a (end_event P (answered a false)) some of_puts in
-    let begun : begin_event P (answered a false) ≡ begin_event P on.next =
-    begin_is P (answered a false) ∙ ap (opening_event P) (access_back a false) ∙ on.begins in
-    let next_is : on.next ≡ answered a false = sym (same_made P (answered a false) on.next begun on.ends) in
-    let both : Some a ≡ Some (begins.Read (row_read_by P r.scan.zeros)) = sym due ∙ scan_due P (modulus_of shape) r.scan scans in
-    let a_is : a ≡ begins.Read (row_read_by P r.scan.zeros) = cc in
-    let next_reads : on.next ≡ Read (row_read_by P r.scan.zeros) false = next_is ∙ ap (λ z. answered z false) a_is in
+    let (rest, whole) = readers.answered_next P es st.made (put_program shape of_puts.0) r.open_access a false st.events_are some of_puts.2 in
+    let a_is : a ≡ begins.Read (row_read_by P r.scan.zeros) = same_open (due_scan r.scan) a _ due (scan_due P (modulus_of shape) r.scan scans) in
     let clash : false ≡ true =
-    last_reads_are_one_puts shape of_puts.0 of_puts.1 st.made r.scan.zeros false on.rest (on.whole_is ∙ ap (λ z. st.made ++ z ∷ on.rest) next_reads) (last.1 ∙ scans.modulus_is) in
+    last_reads_are_one_puts shape of_puts.0 of_puts.1 st.made r.scan.zeros false rest (whole ∙ ap (λ z. st.made ++ answered z false ∷ rest) a_is) (last.1 ∙ scans.modulus_is) in
     absurd (cc)
 
 -- ---- when it stops, by the stage
@@ -70,11 +59,7 @@ goes_behind :
     (shape : Shape) (r : PutReading) (es : List Event) (items stored : List ℕ) (st : PutsStand shape r es items stored) (part : List Made) (e : Event) →
     st.made ≡ put_phrases shape first_count st.puts ++ part → (of_puts : AreOfPuts shape (es ++ e ∷ [])) →
     (on : GoesOnWith P st.made (put_program shape of_puts.0) e) → GoesBehind shape st.puts (part ++ on.next ∷ on.rest)
-goes_behind shape r es items stored st part e made_is of_puts on = record {
-  calls = of_puts.0;
-  are = of_puts.1;
-  program_is = on.whole_is ∙ ap (λ l. l ++ on.next ∷ on.rest) made_is ∙ append_assoc (put_phrases shape first_count st.puts) part (on.next ∷ on.rest);
-}
+goes_behind shape r es items stored st part e made_is of_puts on = grind (arith, append_assoc)
 
 pub made_at : (shape : Shape) (r : PutReading) (es : List Event) (items stored : List ℕ) (st : PutsStand shape r es items stored) (stage : Stage) → r.stage ≡ stage →
     MadeWhile stage shape r st.puts items stored st.made
@@ -121,18 +106,11 @@ same_row_writes : (us vs : List RowWrite) → writes_in (row_bit P) us ≡ write
 same_row_writes [] [] e = refl
 same_row_writes [] (v ∷ vs) e = absurd (cc)
 same_row_writes (u ∷ us) [] e = absurd (cc)
-same_row_writes (u ∷ us) (v ∷ vs) e =
-    let heads : Write (S u.bit) u.value ≡ Write (S v.bit) v.value = cc in
-    let bits : u.bit ≡ v.bit = cc in
-    let values : u.value ≡ v.value = cc in
-    let head : u ≡ v = ap (λ b. record { bit = b; value = u.value }) bits ∙ ap (λ w. record { bit = v.bit; value = w }) values in
-    let tail : us ≡ vs = same_row_writes us vs (cc) in
-    cc
+same_row_writes (u ∷ us) (v ∷ vs) e = grind (arith, same_row_writes us vs (cc))
 
 pub row_bits : (row : UnaryState) (bits : ℕ → Bool) → row.side ≡ P → RowHolds row bits → bit_in row.bits ≡ bits
 row_bits row bits side h =
-    let same : h.writes ≡ h.stands.writes =
-    same_row_writes h.writes h.stands.writes (h.stands.made_is ∙ ap (λ s. writes_in (row_bit s) h.stands.writes) side) in
+    let same : h.writes ≡ h.stands.writes = grind (arith, same_row_writes) in
     fun_ext (λ i. h.stands.remembered i ∙ ap (λ ws. bits_after first_bits ws i) (sym same) ∙ ap (λ f. f i) h.left)
 
 -- what is due once the count of these items is requested
@@ -163,9 +141,7 @@ no_word_nor_count shape r es items stored a st none stage side no_word no_count 
       | inl (v, e, room, few) ↦
           let most : suc (length stored) ≤ length stored + r.room = s.may.most (suc (length stored)) room few in
           no_word v (omega (arith, most)) (sym is_a ∙ ap access_of e ∙ ap (λ j. begins.Write (Cell j 0) v) (sym s.cell_is))
-      | inr (some, w, more, bits, e) ↦
-          no_count (s.some_is ∙ has_some stored some)
-          (first_due (record r.row { value = r.next }) w more side (count_due shape r.row c stored r.next side s.holds s.next_is ∙ bits) ∙ ap Some (sym (ap access_of e) ∙ is_a))
+      | inr (some, w, more, bits, e) ↦ grind (arith, first_due, count_due)
     ]
   where
     has_some : (l : List ℕ) → 1 ≤ length l → has_items l ≡ true
@@ -191,9 +167,7 @@ no_digit shape r es items stored a st none stage below some wrong of_puts =
         let on = rest_on shape r es items stored st (opening_event P a) none of_puts in
         let is_a : access_of on.next ≡ a = same_access P a on.next on.begins in
         let front : List Made = put_phrases shape first_count st.puts in
-        let made_so : st.made ≡ front ++ (scan ++ (words ++ digits)) =
-        made_is ∙ ap (λ n. front ++ (scan ++ (words ++ writes_in (Cell r.cell) (digit_writes r.word.value n)))) e
-        ∙ ap (λ j. front ++ (scan ++ (words ++ writes_in (Cell j) (digit_writes r.word.value (suc read))))) s.cell_is in
+        let made_so : st.made ≡ front ++ (scan ++ (words ++ digits)) = grind arith in
         let g = goes_behind shape r es items stored st (scan ++ (words ++ digits)) (opening_event P a) made_so of_puts on in
         let parts : (scan ++ (words ++ digits)) ++ on.next ∷ on.rest ≡ scan ++ (words ++ (digits ++ on.next ∷ on.rest)) =
         append_assoc scan (words ++ digits) (on.next ∷ on.rest) ∙ ap (λ l. scan ++ l) (append_assoc words digits (on.next ∷ on.rest)) in
@@ -222,8 +196,7 @@ no_bit shape r es items stored a st none stage side due wrong of_puts =
     let on = rest_on shape r es items stored st (opening_event P a) none of_puts in
     let is_a : access_of on.next ≡ a = same_access P a on.next on.begins in
     let g = goes_behind shape r es items stored st (scan ++ (words ++ bits)) (opening_event P a) made_so of_puts on in
-    let parts : (scan ++ (words ++ bits)) ++ on.next ∷ on.rest ≡ scan ++ (words ++ (bits ++ on.next ∷ on.rest)) =
-    append_assoc scan (words ++ bits) (on.next ∷ on.rest) ∙ ap (λ l. scan ++ l) (append_assoc words bits (on.next ∷ on.rest)) in
+    let parts : (scan ++ (words ++ bits)) ++ on.next ∷ on.rest ≡ scan ++ (words ++ (bits ++ on.next ∷ on.rest)) = grind (arith, append_assoc) in
     let batch = s.is_put.2 in
     let room : LeavesRoom shape (c.number % modulus_of shape) s.seen = omega (arith, s.is_put.1, batch.some) in
     let is = puts_go_on_counts shape st.puts s.seen s.batch u w writes more on.next on.rest st.are room batch.fit
@@ -254,12 +227,7 @@ at_stage r stage is e = subst (λ s. IsReaderAt s r) e is.at
 pub read_at :
     (r now new : PutReading) (e : Event) (step : PutStep) (stage : Stage) (o : Option Access) → r ≡ now → IsPutReading r → now.stage ≡ stage → now.open_access ≡ o →
     (r.stage ≡ stage → r.open_access ≡ o → IsReaderAt stage r → HasReadPut r.shape r new e step) → HasReadPut now.shape now new e step
-read_at r now new e step stage o is inside at_now open_now read =
-    let at : r.stage ≡ stage = ap (λ (z : PutReading). z.stage) is ∙ at_now in
-    subst (λ (z : PutReading). HasReadPut z.shape z new e step) is (read at (ap (λ (z : PutReading). z.open_access) is ∙ open_now) (at_stage r stage inside at))
-
-pub same_open : (o : Option Access) (a b : Access) → o ≡ Some a → o ≡ Some b → a ≡ b
-same_open o a b e f = let both : Some a ≡ Some b = sym e ∙ f in cc
+read_at r now new e step stage o is inside at_now open_now read = grind (arith, at_stage)
 
 -- in a scan the open access is its next read
 pub reads_next : (r : PutReading) (a : Access) → IsReaderAt Scanning r → r.open_access ≡ Some a → a ≡ begins.Read (row_read_by P r.scan.zeros)
@@ -276,27 +244,11 @@ fed_by_write old new a answer told w writes below told_is fed goes =
       λ made stands. subst (λ v. ReaderStands new (made ++ Read (Cell old.cell old.read) v ∷ [])) is (goes made (begins.Read (Cell old.cell old.read)) stands (read_due old below)),
     )
 
-pub not_whole : (w : ReaderState) → None ≡ (if nat_lt w.read w.width then None else Some w.value) → w.read < w.width
-not_whole w e = by_test (nat_lt w.read w.width) refl
-  where
-    by_test : (b : Bool) → nat_lt w.read w.width ≡ b → w.read < w.width
-    by_test true f = grind (arith, nat_tests)
-    by_test false f = let clash : None ≡ Some w.value = e ∙ ap (λ b. if b then None else Some w.value) f in absurd (cc)
-
 pub whole_word : (w : ReaderState) (item : ℕ) → Some item ≡ (if nat_lt w.read w.width then None else Some w.value) → (item ≡ w.value) × (w.width ≤ w.read)
-whole_word w item e = by_test (nat_lt w.read w.width) refl
-  where
-    by_test : (b : Bool) → nat_lt w.read w.width ≡ b → (item ≡ w.value) × (w.width ≤ w.read)
-    by_test true f = let clash : Some item ≡ None = e ∙ ap (λ b. if b then None else Some w.value) f in absurd (cc)
-    by_test false f = let both : Some item ≡ Some w.value = e ∙ ap (λ b. if b then None else Some w.value) f in (cc, grind (arith, nat_tests))
+whole_word w item e = grind (arith, nat_tests)
 
 pub no_value : (s : ScanState) → None ≡ (if s.found then Some s.zeros else None) → s.found ≡ false
-no_value s e = by_found s.found refl
-  where
-    by_found : (b : Bool) → s.found ≡ b → s.found ≡ false
-    by_found true f = let clash : None ≡ Some s.zeros = e ∙ ap (λ b. if b then Some s.zeros else None) f in absurd (cc)
-    by_found false f = f
+no_value s e = grind arith
 
 pub no_due : (o : Option Access) (b : Bool) → is_some o ≡ not b → b ≡ true → o ≡ None
-no_due None b e f = refl
-no_due (Some a) b e f = let clash : true ≡ false = e ∙ ap not f in absurd (cc)
+no_due o b e f = grind arith

@@ -7,7 +7,7 @@ use Rattle.bits_core.specs.declared.events.Access.TheVariants as begins
 use Rattle.bits_core.specs.declared.events.Event.{Event}
 use Rattle.bits_core.specs.declared.shapes.Shape.{Shape}
 use Rattle.bits_core.specs.Shape.{capacity_of, modulus_of, batch_of}
-use Rattle.bits_core.specs.Made.{Made, Read, answered, end_event, events_of, opening_event}
+use Rattle.bits_core.specs.Made.{Made, Read, answered, end_event, opening_event}
 use Rattle.register_core.specs.Row.{RowWrite, row_bit, bits_after, writes_in}
 use Rattle.register_core.specs.Word.{digit_writes}
 use Rattle.register_core.specs.WordState.{ReaderState, ReaderStands}
@@ -18,7 +18,6 @@ use Rattle.ring_core.specs.Puts.{Put, Full, words_phrase, put_phrases, ArePuts}
 use Rattle.ring_core.specs.PutParts.{count_behind}
 use Rattle.ring_audit.specs.declared.puts.Stage.{Stage}
 use Rattle.ring_audit.specs.declared.puts.Stage.TheVariants.{Resting, Scanning, Choosing, Storing, Counting, Closing, Closed}
-use Rattle.ring_audit.specs.Sides.{open_events}
 use Rattle.ring_audit.specs.PutReading.{PutReading, RowHolds, IsMost, has_items, AtRest, InCount, MadeWhile, PutsStand}
 use Rattle.ring_core.proofs.Machines.PutCalls.{phrases-push, stored-push, are-push, all_put-full}
 use Rattle.ring_audit.proofs.Readers.{opened, ended}
@@ -33,15 +32,8 @@ begun :
     {shape : Shape} {r new : PutReading} {es : List Event} {items stored items_on stored_on : List ℕ} (st : PutsStand shape r es items stored) (a : Access) (stage : Stage) →
     r.open_access ≡ None → new.shape ≡ r.shape → new.count ≡ r.count → new.open_access ≡ Some a → new.stage ≡ stage → MadeWhile stage shape new st.puts items_on stored_on st.made →
     PutsStand shape new (es ++ opening_event P a ∷ []) items_on stored_on
-begun {shape = shape} {r = r} {new = new} {es = es} {items_on = items_on} {stored_on = stored_on} st a stage none shape_is count_is opens stage_is made_is = record {
-  puts = st.puts;
-  made = st.made;
-  shape_is = shape_is ∙ st.shape_is;
-  are = st.are;
-  count_is = count_is ∙ st.count_is;
-  events_are = opened P es st.made r.open_access a st.events_are none ∙ ap (λ o. events_of P st.made ++ open_events P o) (sym opens);
-  made_is = subst (λ z. MadeWhile z shape new st.puts items_on stored_on st.made) (sym stage_is) made_is;
-}
+begun {shape = shape} {r = r} {new = new} {es = es} {items_on = items_on} {stored_on = stored_on} st a stage none shape_is count_is opens stage_is made_is =
+    grind (arith, opened P es st.made r.open_access a st.events_are none)
 
 pub begins_word :
     (shape : Shape) (r : PutReading) (es : List Event) (items stored : List ℕ) (word : ReaderState) (a : Access) → PutsStand shape r es items stored → r.open_access ≡ None →
@@ -60,8 +52,7 @@ begins_word shape r es items stored word a st none stage new stands =
     )
 
 some_items : (l : List ℕ) (b : Bool) → b ≡ has_items l → b ≡ true → 1 ≤ length l
-some_items [] b e f = let clash : true ≡ false = sym f ∙ e in absurd (cc)
-some_items (x ∷ l) b e f = omega arith
+some_items l b e f = grind arith
 
 pub begins_count :
     (shape : Shape) (r : PutReading) (es : List Event) (items stored : List ℕ) (row : UnaryState) (a : Access) → PutsStand shape r es items stored → r.open_access ≡ None →
@@ -142,16 +133,7 @@ pub ended_so :
     (puts : List Put) → r.open_access ≡ Some a → ArePuts shape 0 puts → new.count ≡ (count_behind shape puts).number % modulus_of shape → new.shape ≡ r.shape → new.open_access ≡ None →
     new.stage ≡ stage → MadeWhile stage shape new puts items_on stored_on (st.made ++ answered a v ∷ []) → PutsStand shape new (es ++ end_event P (answered a v) ∷ []) items_on stored_on
 ended_so {shape = shape} {r = r} {new = new} {es = es} {items_on = items_on} {stored_on = stored_on} st a v stage puts some are count_is shape_is none stage_is made_is =
-    let made : List Made = st.made ++ answered a v ∷ [] in
-    record {
-      puts = puts;
-      made = made;
-      shape_is = shape_is ∙ st.shape_is;
-      are = are;
-      count_is = count_is;
-      events_are = ended P es st.made r.open_access a v st.events_are some ∙ ap (λ o. events_of P made ++ open_events P o) (sym none);
-      made_is = subst (λ z. MadeWhile z shape new puts items_on stored_on made) (sym stage_is) made_is;
-    }
+    grind (arith, ended P es st.made r.open_access a v st.events_are some)
 
 pub ends_close :
     (shape : Shape) (r : PutReading) (es : List Event) (items stored : List ℕ) (a : Access) (v : Bool) → PutsStand shape r es items stored → r.open_access ≡ Some a →
@@ -165,8 +147,7 @@ ends_close shape r es items stored a v st some is stage =
     )
 
 read_zero : (s : ScanState) (v : Bool) → (scan_read s v).found ≡ false → (v ≡ false) × ((scan_read s v).zeros ≡ suc s.zeros)
-read_zero s true e = absurd (cc)
-read_zero s false e = (refl, refl)
+read_zero s v e = grind arith
 
 pub ends_zero :
     (shape : Shape) (r : PutReading) (es : List Event) (items stored : List ℕ) (scan : ScanState) (a : Access) (v : Bool) → PutsStand shape r es items stored → r.open_access ≡ Some a →
@@ -186,24 +167,14 @@ ends_zero shape r es items stored scan a v st some is stage fed not_found =
     )
 
 read_one : (s : ScanState) (v : Bool) (seen : ℕ) → s.found ≡ false → (if (scan_read s v).found then Some (scan_read s v).zeros else None) ≡ Some seen → (v ≡ true) × (s.zeros ≡ seen)
-read_one s true seen e f = (refl, cc)
-read_one s false seen e f = let clash : None ≡ Some seen = sym (ap (λ b. if b then Some (suc s.zeros) else None) e) ∙ f in absurd (cc)
+read_one s v seen e f = grind arith
 
 -- the accesses once a scan has returned its value
 scanned :
     (shape : Shape) (r : PutReading) (es : List Event) (items stored : List ℕ) (st : PutsStand shape r es items stored) (scan : ScanState) (a : Access) (v : Bool) (seen : ℕ) →
     a ≡ begins.Read (row_read_by P r.scan.zeros) → r.stage ≡ Scanning → r.scan.found ≡ false → scan ≡ scan_read r.scan v → (if scan.found then Some scan.zeros else None) ≡ Some seen →
     AtRest shape r st.puts items stored × (st.made ++ answered a v ∷ [] ≡ put_phrases shape first_count st.puts ++ scan_phrase (row_read_by P) seen)
-scanned shape r es items stored st scan a v seen is stage not_found fed gives =
-    let (rests, made_is) = made_at shape r es items stored st Scanning stage in
-    let front : List Made = put_phrases shape first_count st.puts in
-    let zeros : List Made = zero_reads (row_read_by P) r.scan.zeros in
-    let (one, zeros_is) = read_one r.scan v seen not_found (ap (λ (z : ScanState). if z.found then Some z.zeros else None) (sym fed) ∙ gives) in (
-      rests,
-      ap (λ l. l ++ answered a v ∷ []) made_is ∙ append_assoc front zeros (answered a v ∷ [])
-          ∙ ap (λ z. front ++ (zeros ++ answered z v ∷ [])) is ∙ ap (λ w. front ++ (zeros ++ Read (row_read_by P r.scan.zeros) w ∷ [])) one
-          ∙ ap (λ n. front ++ scan_phrase (row_read_by P) n) zeros_is,
-    )
+scanned shape r es items stored st scan a v seen is stage not_found fed gives = grind (arith, made_at, read_one, append_assoc)
 
 pub ends_with_room :
     (shape : Shape) (r : PutReading) (es : List Event) (items stored : List ℕ) (scan : ScanState) (a : Access) (v : Bool) (seen room : ℕ) → PutsStand shape r es items stored →

@@ -8,7 +8,7 @@ use Rattle.bits_core.specs.Made.{Made, access_of, answered, end_event, events_of
 use Rattle.ring_audit.specs.Sides.{open_events, EndsSo}
 use Rattle.ring_core.proofs.Machines.Following.{events_of-append, length-events}
 use Rattle.ring_core.proofs.Machines.GoingOn.{access_back}
-use Rattle.ring_audit.proofs.Beginnings.{begin_is, answer_is, begun_is, ended_is, same_access, GoesOnWith, next_begins, GoesOnBy, next_ends}
+use Rattle.ring_audit.proofs.Beginnings.{begin_is, answer_is, same_access, GoesOnWith, next_begins, GoesOnBy, next_ends}
 
 -- ---- what was read
 
@@ -20,8 +20,7 @@ at_rest s es made o is none = is ∙ ap (λ z. events_of s made ++ open_events s
 at_work :
     (s : Side) (es : List Event) (made : List Made) (o : Option Access) (a : Access) (e : Event) → es ≡ events_of s made ++ open_events s o → o ≡ Some a →
     es ++ e ∷ [] ≡ events_of s made ++ opening_event s a ∷ e ∷ []
-at_work s es made o a e is some =
-    ap (λ l. l ++ e ∷ []) (is ∙ ap (λ z. events_of s made ++ open_events s z) some) ∙ append_assoc (events_of s made) (opening_event s a ∷ []) (e ∷ [])
+at_work s es made o a e is some = grind (arith, append_assoc)
 
 -- two for each access that was made, and one for the open one
 pub open-short : (s : Side) (made : List Made) (o : Option Access) → length (events_of s made ++ open_events s o) ≤ suc (2 * length made)
@@ -60,8 +59,7 @@ rest_on s es made whole o e is none begins = next_begins s made whole e (subst (
 pub work_on :
     (s : Side) (es : List Event) (made whole : List Made) (o : Option Access) (a : Access) (e : Event) → es ≡ events_of s made ++ open_events s o → o ≡ Some a →
     IsPrefix (es ++ e ∷ []) (events_of s whole) → GoesOnBy s made whole (opening_event s a) e
-work_on s es made whole o a e is some begins =
-    next_ends s made whole (opening_event s a) e (subst (λ l. IsPrefix l (events_of s whole)) (at_work s es made o a e is some) begins)
+work_on s es made whole o a e is some begins = grind (arith, next_ends, at_work)
 
 -- ---- when it stops
 
@@ -69,19 +67,13 @@ work_on s es made whole o a e is some begins =
 pub begin_in_access :
     (s : Side) (es : List Event) (made whole : List Made) (o : Option Access) (a : Access) (e : Event) (b : Access) → es ≡ events_of s made ++ open_events s o → o ≡ Some a →
     begun_by e ≡ Some b → IsPrefix (es ++ e ∷ []) (events_of s whole) → ⊥
-begin_in_access s es made whole o a e b is some begun begins =
-    let on = work_on s es made whole o a e is some begins in
-    let clash : Some b ≡ None = sym begun ∙ ap begun_by on.ends ∙ ended_is s on.next in
-    absurd (cc)
+begin_in_access s es made whole o a e b is some begun begins = grind (arith, work_on s es made whole o a e is some begins)
 
 -- an end while none is open
 pub end_at_rest :
     (s : Side) (es : List Event) (made whole : List Made) (o : Option Access) (e : Event) → es ≡ events_of s made ++ open_events s o → o ≡ None → begun_by e ≡ None →
     IsPrefix (es ++ e ∷ []) (events_of s whole) → ⊥
-end_at_rest s es made whole o e is none no_begin begins =
-    let on = rest_on s es made whole o e is none begins in
-    let clash : None ≡ Some (access_of on.next) = sym no_begin ∙ ap begun_by on.begins ∙ begun_is s on.next in
-    absurd (cc)
+end_at_rest s es made whole o e is none no_begin begins = grind (arith, rest_on s es made whole o e is none begins)
 
 -- an event that does not end the access that is open
 pub wrong_end :
@@ -91,5 +83,14 @@ wrong_end s es made whole o a e is some by no_end begins =
     let on = work_on s es made whole o a e is some begins in
     let same : access_of on.next ≡ a = same_access s a on.next on.begins in
     let (v, next_so) = answer_is on.next in
-    let next_is : on.next ≡ answered a v = next_so ∙ ap (λ z. answered z v) same in
-    no_end v (on.ends ∙ ap (end_event s) next_is ∙ ap (λ t. end_event t (answered a v)) (sym by))
+    grind arith
+
+-- the open access, if it ends with an answer, is the next of the calls
+pub answered_next :
+    (s : Side) (es : List Event) (made whole : List Made) (o : Option Access) (a : Access) (v : Bool) → es ≡ events_of s made ++ open_events s o → o ≡ Some a →
+    IsPrefix (es ++ end_event s (answered a v) ∷ []) (events_of s whole) → (rest : List Made) × (whole ≡ made ++ answered a v ∷ rest)
+answered_next s es made whole o a v is some begins =
+    grind (arith, work_on s es made whole o a (end_event s (answered a v)) is some begins, begin_is s (answered a v))
+
+pub same_open : (o : Option Access) (a b : Access) → o ≡ Some a → o ≡ Some b → a ≡ b
+same_open o a b e f = let both : Some a ≡ Some b = sym e ∙ f in cc

@@ -1,21 +1,18 @@
 -- The cases in which there are too few slots.
 pub use Rattle.lists.proofs.Results.{on_err}
-use Rattle.std.proofs.Common.{◌≡◌, inl, inr, ℕ, suc, ◌+◌, ◌<◌, ◌≤◌, Bool, true, false, List, [], ◌∷◌, ◌++◌, length, take, get_or, if◌then◌else◌, refl, sym, ap, subst, ◌∙◌, arith, length-append}
+use Rattle.std.proofs.Common.{◌≡◌, inr, ℕ, ◌+◌, ◌<◌, ◌≤◌, Bool, List, [], ◌∷◌, ◌++◌, length, take, get_or, refl, sym, ap, subst, ◌∙◌, arith, length-append}
 use Rattle.std.proofs.lemmas.List.{take_more, take-take, take_at, length-take-le}
 use Rattle.bits_core.specs.declared.events.Event.{Event}
 use Rattle.bits_core.specs.declared.shapes.Shape.{Shape}
 use Rattle.bits_core.specs.Shape.{batch_of}
 use Rattle.bits_core.specs.declared.events.Side.{Side}
 use Rattle.bits_core.specs.declared.events.Side.TheVariants.{P, C}
-use Rattle.bits_core.specs.Bits.{is_by}
 use Rattle.bits_core.specs.Lawful.{IsLawful}
 use Rattle.ring_core.specs.Puts.{Put}
 use Rattle.bits_core.specs.Made.{Made, subhistory}
 use Rattle.ring_audit.specs.declared.puts.Stage.{Stage}
-use Rattle.ring_audit.specs.declared.puts.Stage.TheVariants.{Resting, Scanning, Choosing, Storing, Counting, Closing, Closed}
 use Rattle.ring_audit.specs.Audit.{IsFound, IsFinding, FitsIn, HasTooFewSlots, statement_in}
 use Rattle.ring_audit.specs.declared.audits.Found.{Found}
-use Rattle.ring_audit.specs.declared.audits.Found.TheVariants as slots
 use Rattle.ring_audit.specs.declared.puts.PutStep.TheVariants as p
 use Rattle.ring_audit.specs.declared.takes.TakeStep.TheVariants as c
 use Rattle.ring_audit.specs.PutReading.{PutReading, PutsStand, HasReadPut, MadeWhile}
@@ -30,12 +27,8 @@ pub put_needs :
     (shape : Shape) (puts new : PutReading) (takes : TakeReading) (counted : ℕ) (put taken : List ℕ) (e : Event) (item put_room taken_room : ℕ) → e.side ≡ P →
     HasReadPut shape puts new e (p.Stores item) → put_room ≤ length put → (h : List Event) → ReadingStands shape (reading puts takes counted put taken) h →
     NeedsRoom shape new takes counted put_room taken_room (h ++ e ∷ [])
-put_needs shape puts new takes counted put taken e item put_room taken_room by read full h st = record {
-  put = put ++ item ∷ [];
-  taken = taken;
-  stands = put_stores shape (reading puts takes counted put taken) new e item (put ++ item ∷ []) by read refl h st;
-  short = inl (omega (arith, full, length-append put (item ∷ [])));
-}
+put_needs shape puts new takes counted put taken e item put_room taken_room by read full h st =
+    grind (arith, put_stores shape (reading puts takes counted put taken) new e item (put ++ item ∷ []) by read refl h st, length-append put (item ∷ []))
 
 pub take_needs :
     (shape : Shape) (puts : PutReading) (takes new : TakeReading) (counted : ℕ) (put taken kept : List ℕ) (e : Event) (put_room taken_room : ℕ) → e.side ≡ C →
@@ -51,11 +44,7 @@ take_needs shape puts takes new counted put taken kept e put_room taken_room by 
 -- no more items are taken than there are events
 pub length-own : (s : Side) (h : List Event) → length (subhistory s h) ≤ length h
 length-own s [] = omega arith
-length-own s (e ∷ h) =
-    elim (is_by s e) as (λ b. length (if b then e ∷ subhistory s h else subhistory s h) ≤ suc (length h)) [
-      | true ↦ omega (arith, length-own s h)
-      | false ↦ omega (arith, length-own s h)
-    ]
+length-own s (e ∷ h) = grind (arith, length-own s h)
 
 pub take_short :
     (shape : Shape) (puts : PutReading) (takes new : TakeReading) (counted : ℕ) (put taken kept : List ℕ) (e : Event) (taken_room : ℕ) → e.side ≡ C →
@@ -72,13 +61,7 @@ take_short shape puts takes new counted put taken kept e taken_room by read same
 few_at :
     (stage : Stage) (shape : Shape) (r : PutReading) (puts : List Put) (items stored : List ℕ) (made : List Made) → MadeWhile stage shape r puts items stored made →
     length stored ≤ batch_of shape
-few_at Resting shape r puts items stored made (rests, is) = omega (arith, ap length rests.none_stored)
-few_at Scanning shape r puts items stored made (rests, is) = omega (arith, ap length rests.none_stored)
-few_at Choosing shape r puts items stored made (s, is) = omega (arith, s.may.few)
-few_at Storing shape r puts items stored made (s, reads, stands, is) = omega (arith, s.may.few)
-few_at Counting shape r puts items stored made (s, is) = omega (arith, ap length s.none_stored)
-few_at Closing shape r puts items stored made (rests, is) = omega (arith, ap length rests.none_stored)
-few_at Closed shape r puts items stored made (rests, is) = omega (arith, ap length rests.none_stored)
+few_at stage shape r puts items stored made h1 = grind arith
 
 pub few_stored : (shape : Shape) (r : PutReading) (es : List Event) (items stored : List ℕ) → PutsStand shape r es items stored → length stored ≤ batch_of shape
 few_stored shape r es items stored st = few_at r.stage shape r st.puts items stored st.made st.made_is
@@ -98,27 +81,11 @@ too_few_slots of shape h i d puts takes counted put_room taken_room told same wi
     let g : List Event = take i h ++ get_or h i d ∷ [] in
     let are : IsFound of g (take counted needs.put) needs.taken told = found g needs.put needs.taken (subst (λ s. IsLawful s g) (sym same) lawful) needs.stands in
     let items_are : take counted needs.put ≡ needs.stands.items = counted_are of puts takes counted needs.put needs.taken g needs.stands in
-    let few : length needs.stands.stored ≤ batch_of of = few_stored of puts _ needs.stands.items needs.stands.stored needs.stands.puts_stand in
-    let long : length needs.put ≡ length needs.stands.items + length needs.stands.stored = ap length needs.stands.put_is ∙ length-append needs.stands.items needs.stands.stored in
-    record {
-      until = i + 1;
-      put = take counted needs.put;
-      taken = needs.taken;
-      told = told;
-      found = subst (λ k. IsFound shape k (take counted needs.put) needs.taken told) (sym (take_more h i d within)) (subst (λ s. IsFound s g (take counted needs.put) needs.taken told) same are);
-      short = elim needs.short [
-        | inl put_short ↦ inl (omega (arith, put_short, long, few, ap batch_of same, ap length items_are))
-        | inr taken_short ↦ inr taken_short
-      ];
-    }
+    grind (arith, few_stored, length-append, take_more)
 
 -- the items of the lists are in the first slots
 pub in_slots :
     (shape : Shape) (h : List Event) (put_slots taken_slots : List ℕ) (put_used taken_used : ℕ) (found : Found) → put_used ≤ length put_slots → taken_used ≤ length taken_slots →
     FitsIn (length (take put_used put_slots)) (length (take taken_used taken_slots)) found → IsFinding shape h (statement_in (take put_used put_slots) (take taken_used taken_slots) found) →
     IsFinding shape h (statement_in put_slots taken_slots found)
-in_slots shape h put_slots taken_slots put_used taken_used (slots.Fault place kind) put_few taken_few fits is = is
-in_slots shape h put_slots taken_slots put_used taken_used (slots.Lawful put taken told) put_few taken_few (fits, fits') is =
-    let put_is : take put (take put_used put_slots) ≡ take put put_slots = take-take put put_used put_slots (omega (arith, fits, length-take-le put_used put_slots put_few)) in
-    let taken_is : take taken (take taken_used taken_slots) ≡ take taken taken_slots = take-take taken taken_used taken_slots (omega (arith, fits', length-take-le taken_used taken_slots taken_few)) in
-    subst (λ l. IsFound shape h (take put put_slots) l told) taken_is (subst (λ l. IsFound shape h l (take taken (take taken_used taken_slots)) told) put_is is)
+in_slots shape h put_slots taken_slots put_used taken_used found put_few taken_few fits is = grind (arith, take-take, length-take-le)

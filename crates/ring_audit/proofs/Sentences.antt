@@ -9,7 +9,7 @@ use Rattle.ring_core.specs.Items.{items_put, items_taken, IsTold}
 use Rattle.ring_core.specs.Linear.{IsLinearizableRun}
 use Rattle.ring_core.specs.RingLaw.{InEveryRun, RingLaw}
 use Rattle.ring_core.specs.RunLaws.{ClosedStays}
-use Rattle.ring_audit.specs.Audit.{IsFound, MeetsSentence, Statement, Lawful, Fault, IsFinding, SaysLinearizable, SaysSentence}
+use Rattle.ring_audit.specs.Audit.{IsFound, MeetsSentence, Statement, IsFinding, SaysLinearizable, SaysSentence}
 use Rattle.ring_core.proofs.OwnEvents.{clock_end}
 
 sentence : InEveryRun RingLaw → ClosedStays → (shape : Shape) (h : List Event) (put taken : List ℕ) (told : Bool) → IsFound shape h put taken told → MeetsSentence shape h put taken told
@@ -23,16 +23,12 @@ sentence holds stays shape h put taken told f =
           (let at : IsTold shape f.takes (clock C h (length h)) = subst (IsTold shape f.takes) (sym (clock_end C h)) (f.told_is.0 e) in
           let (all_put, all_taken, closes, behind) = law.closed (length h) (length h) at (omega arith) in
           sym taken_so ∙ all_taken ∙ sym all_put ∙ put_so);
-      stays = λ e h' put' taken' told' begins g.
-          (let same = stays shape h h' f.puts g.puts f.takes g.takes f.run g.run begins (f.told_is.0 e) in
-          (g.put_is ∙ same.0 ∙ sym f.put_is, g.taken_is ∙ same.1 ∙ sym f.taken_is));
+      stays = λ e h' put' taken' told' begins g. grind arith;
       law = λ puts takes run. holds shape h puts takes run;
     }
 
 pub says_sentence : InEveryRun RingLaw → ClosedStays → (shape : Shape) (h : List Event) (f : Statement) → IsFinding shape h f → SaysSentence shape h f
-says_sentence holds stays shape h (Lawful put taken told) found = sentence holds stays shape h put taken told found
-says_sentence holds stays shape h (Fault place kind) found = record {}
+says_sentence holds stays shape h f found = grind (arith, sentence)
 
 pub says_linearizable : InEveryRun IsLinearizableRun → (shape : Shape) (h : List Event) (f : Statement) → SaysLinearizable shape h f
-says_linearizable holds shape h (Lawful put taken told) = holds shape h
-says_linearizable holds shape h (Fault place kind) = record {}
+says_linearizable holds shape h f = grind arith

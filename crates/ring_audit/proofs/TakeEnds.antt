@@ -1,6 +1,5 @@
 -- What was taken so far, and whether a take returned Closed, by the calls whose accesses begin with these events.
-use Rattle.std.proofs.Common.{◌≡◌, inl, inr, ℕ, suc, ◌+◌, ◌-◌, ◌*◌, ◌%◌, ◌<◌, ◌≤◌, ◌↔◌, Bool, true, false, Option, Some, None, List, [], ◌∷◌, ◌++◌, length, refl, sym, ap, subst, ◌∙◌, arith, append_assoc, append-nil, length-append, if◌then◌else◌, IsTrue}
-use Rattle.std.proofs.lemmas.Bool.{lt-leb, le-leb}
+use Rattle.std.proofs.Common.{◌≡◌, ℕ, suc, ◌+◌, ◌*◌, ◌%◌, ◌<◌, ◌≤◌, ◌↔◌, Bool, true, false, Option, Some, None, List, [], ◌∷◌, ◌++◌, length, refl, sym, ap, subst, ◌∙◌, arith, append_assoc, append-nil, length-append, IsTrue}
 use Rattle.bits_core.specs.declared.events.Side.TheVariants.{C}
 use Rattle.bits_core.specs.declared.events.Access.{Access}
 use Rattle.bits_core.specs.declared.events.Event.{Event}
@@ -10,72 +9,30 @@ use Rattle.bits_core.specs.Made.{Made, answered, end_event, events_of, IsPrefix,
 use Rattle.ring_core.specs.declared.replies.TakeReply.{TakeReply}
 use Rattle.ring_core.specs.declared.replies.TakeReply.TheVariants as replies
 use Rattle.register_core.specs.Word.{word_read}
-use Rattle.ring_core.specs.Counts.{Count, first_count, batch_phrase}
-use Rattle.ring_core.specs.Takes.{Take, Item, ItemAfterClose, Empty, Takes, End, Open, Closed, count_after, taken_count, words_read, items_phrase, accesses_before_word, take_phrase, take_phrases, end_phrase, take_program, AreTakes}
-use Rattle.ring_core.specs.Items.{taken_of, all_taken, take_ended, events_in, items_taken, Tells, IsTold}
+use Rattle.ring_core.specs.Counts.{Count, first_count}
+use Rattle.ring_core.specs.Takes.{Take, Item, ItemAfterClose, Empty, Takes, End, count_after, words_read, items_phrase, take_phrase, take_phrases, end_phrase, take_program, AreTakes}
+use Rattle.ring_core.specs.Items.{taken_of, all_taken, events_in, items_taken, IsTold}
 use Rattle.ring_core.specs.ConsumerState.{ConsumerState, due_take, is_taking}
 use Rattle.ring_core.specs.ConsumerCalls.{ConsumerStands, HasTakeMore, TakeGoesOn, IsReplyToTake, items_reply, last_take_reply, reply_at_end}
 use Rattle.ring_audit.specs.Sides.{open_events}
 use Rattle.ring_audit.specs.TakeReading.{TakeReading, IsTakeReading, TakesStand, WereTaken, tells_closed}
 use Rattle.register_core.proofs.Digits.{length-reads}
+use Rattle.ring_core.proofs.Readings.Over.{over-under_way, taken-over, taken_all}
 use Rattle.ring_core.proofs.Machines.Following.{events_of-append, length-events}
 use Rattle.ring_core.proofs.Machines.GoingOn.{access_back}
-use Rattle.ring_core.proofs.Machines.TakeCalls.{phrases-push}
 use Rattle.ring_audit.proofs.Readers.{open-short, open-long}
 use Rattle.ring_audit.proofs.Beginnings.{begin_is}
 use Rattle.ring_audit.proofs.TakeReads.{front_at}
 
 -- ---- items
 
-from_first :
-    (shape : Shape) (k : Count) (x : Take) (takes : List Take) (t : ℕ) →
-    items_taken shape k (x ∷ takes) t ≡ take_ended shape k x t ++ items_taken shape (count_after shape k x) takes (t - events_in (take_phrase shape k x))
-from_first shape k x takes t = refl
-
-not_yet : (shape : Shape) (k : Count) (x : Take) (t : ℕ) → t < events_in (take_phrase shape k x) → take_ended shape k x t ≡ []
-not_yet shape k (Item seen items) t l = ap (λ b. if b then items else []) (lt-leb (events_in (take_phrase shape k (Item seen items))) t l)
-not_yet shape k (ItemAfterClose seen again items) t l =
-    ap (λ b. if b then items else []) (lt-leb (events_in (take_phrase shape k (ItemAfterClose seen again items))) t l)
-not_yet shape k (Empty seen) t l = refl
-
--- while the take has not ended it has taken nothing
-late : (shape : Shape) (k : Count) (x : Take) (t : ℕ) → t < events_in (take_phrase shape k x) → items_taken shape k (x ∷ []) t ≡ []
-late shape k x t l = from_first shape k x [] t ∙ append-nil (take_ended shape k x t) ∙ not_yet shape k x t l
-
--- once it has ended, its items
-ended_take : (shape : Shape) (k : Count) (x : Take) (t : ℕ) → events_in (take_phrase shape k x) ≤ t → take_ended shape k x t ≡ taken_of x
-ended_take shape k (Item seen items) t l = ap (λ b. if b then items else []) (le-leb (events_in (take_phrase shape k (Item seen items))) t l)
-ended_take shape k (ItemAfterClose seen again items) t l =
-    ap (λ b. if b then items else []) (le-leb (events_in (take_phrase shape k (ItemAfterClose seen again items))) t l)
-ended_take shape k (Empty seen) t l = refl
-
 pub events_in-append : (xs ys : List Made) → events_in (xs ++ ys) ≡ events_in xs + events_in ys
 events_in-append xs ys = omega (arith, length-append xs ys)
-
--- the items of takes that have all ended, and of those after them
-items-behind :
-    (shape : Shape) (k : Count) (xs ys : List Take) (t : ℕ) → events_in (take_phrases shape k xs) ≤ t →
-    items_taken shape k (xs ++ ys) t ≡ all_taken xs ++ items_taken shape (taken_count shape k xs) ys (t - events_in (take_phrases shape k xs))
-items-behind shape k [] ys t l = let none : t - 0 ≡ t = omega arith in ap (items_taken shape k ys) (sym none)
-items-behind shape k (x ∷ xs) ys t l =
-    let m : Count = count_after shape k x in
-    let here : ℕ = events_in (take_phrase shape k x) in
-    let there : ℕ = events_in (take_phrases shape m xs) in
-    let both : events_in (take_phrases shape k (x ∷ xs)) ≡ here + there = events_in-append (take_phrase shape k x) (take_phrases shape m xs) in
-    let rest : items_taken shape m (xs ++ ys) (t - here) ≡ all_taken xs ++ items_taken shape (taken_count shape m xs) ys ((t - here) - there) =
-    items-behind shape m xs ys (t - here) (omega (arith, l, both)) in
-    let left : (t - here) - there ≡ t - events_in (take_phrases shape k (x ∷ xs)) = omega (arith, both) in
-    let last : List ℕ = items_taken shape (taken_count shape m xs) ys (t - events_in (take_phrases shape k (x ∷ xs))) in
-    from_first shape k x (xs ++ ys) t
-    ∙ ap (λ l. take_ended shape k x t ++ l) (rest ∙ ap (λ n. all_taken xs ++ items_taken shape (taken_count shape m xs) ys n) left)
-    ∙ ap (λ l. l ++ (all_taken xs ++ last)) (ended_take shape k x t (omega (arith, l, both)))
-    ∙ sym (append_assoc (taken_of x) (all_taken xs) last)
 
 -- ---- replies
 
 some-not_closed : (items : List ℕ) → tells_closed (Some (items_reply items)) ≡ false
-some-not_closed [] = refl
-some-not_closed (item ∷ items) = refl
+some-not_closed items = grind arith
 
 last-not_closed : (first : Option TakeReply) (xs : List Take) → tells_closed first ≡ false → tells_closed (last_take_reply first xs) ≡ false
 last-not_closed first [] e = e
@@ -87,15 +44,12 @@ abbrev SaysTold : Bool → Type 0 → Type 0
 SaysTold b told = IsTrue b ↔ told
 
 says_not : (b : Bool) (told : Type 0) → b ≡ false → (told → ⊥) → SaysTold b told
-says_not true told e no_one = absurd (cc)
-says_not false told e no_one = (λ is. absurd (cc), λ t. absurd (no_one t))
+says_not b told e no_one = grind arith
 
 -- the reply after calls that are over
 told-over : (shape : Shape) (calls : Takes) (end : End) (t : ℕ) → calls.end ≡ end → events_in (take_program shape calls) ≤ t →
     SaysTold (tells_closed (reply_at_end end calls.takes)) (IsTold shape calls t)
-told-over shape calls Open t e l =
-    says_not (tells_closed (last_take_reply None calls.takes)) (IsTold shape calls t) (last-not_closed None calls.takes refl) (λ told. subst Tells e told.0)
-told-over shape calls (Closed seen again) t e l = (λ is. (subst Tells (sym e) (record {}), l), λ told. refl)
+told-over shape calls end t e l = grind (arith, says_not, last-not_closed)
 
 -- ---- the take under way
 
@@ -104,21 +58,7 @@ taken-under_way :
     (shape : Shape) (wanted : ℕ) (calls more : Takes) (t : ℕ) → HasTakeMore shape wanted calls more → events_in (take_phrases shape first_count calls.takes) ≤ t →
     t < events_in (take_program shape more) → all_taken calls.takes ≡ items_taken shape first_count more.takes t
 taken-under_way shape wanted calls more t has reached not_ended =
-    let k : Count = taken_count shape first_count calls.takes in
-    let front : ℕ = events_in (take_phrases shape first_count calls.takes) in
-    elim has.is_one_more [
-      | inl (x, of, more_is) ↦
-          let program : events_in (take_program shape more) ≡ front + events_in (take_phrase shape k x) =
-          ap (λ c. events_in (take_program shape c)) more_is
-          ∙ ap events_in (append-nil (take_phrases shape first_count (calls.takes ++ x ∷ [])) ∙ phrases-push shape first_count calls.takes x)
-          ∙ events_in-append (take_phrases shape first_count calls.takes) (take_phrase shape k x) in
-          let nothing : items_taken shape k (x ∷ []) (t - front) ≡ [] = late shape k x (t - front) (omega (arith, program, reached, not_ended)) in
-          sym (append-nil (all_taken calls.takes)) ∙ ap (λ l. all_taken calls.takes ++ l) (sym nothing) ∙ sym (items-behind shape first_count calls.takes (x ∷ []) t reached)
-          ∙ ap (λ (c : Takes). items_taken shape first_count c.takes t) (sym more_is)
-      | inr (seen, again, more_is) ↦
-          sym (append-nil (all_taken calls.takes)) ∙ sym (items-behind shape first_count calls.takes [] t reached)
-          ∙ ap (λ l. items_taken shape first_count l t) (append-nil calls.takes) ∙ ap (λ (c : Takes). items_taken shape first_count c.takes t) (sym more_is)
-    ]
+    sym (taken-over shape first_count more.takes t ∙ ap all_taken (over-under_way shape wanted calls more t has reached not_ended))
 
 -- they are a prefix of the events of a list that continues with the access
 open_begins :
@@ -148,8 +88,7 @@ taken_at shape p o es items None reply st is_due goes rests replied =
     let answers : IsReplyToTake st.calls false reply = subst (λ b. IsReplyToTake st.calls b reply) idle replied in
     let none : o ≡ None = no_open o is_due in
     let program : List Made = take_program shape st.calls in
-    let es_is : es ≡ events_of C program =
-    st.events_are ∙ ap (λ z. events_of C st.made ++ open_events C z) none ∙ append-nil (events_of C st.made) ∙ ap (events_of C) made_is in
+    let es_is : es ≡ events_of C program = grind (arith, append-nil) in
     let long : length es ≡ events_in program = ap length es_is ∙ length-events C program in
     let phrases : List Made = take_phrases shape first_count st.calls.takes in
     let reached : events_in phrases ≤ length es = omega (arith, long, length-append phrases (end_phrase st.calls.end)) in
@@ -157,8 +96,7 @@ taken_at shape p o es items None reply st is_due goes rests replied =
       calls = st.calls;
       are = subst (λ s. AreTakes s 0 st.calls.takes st.calls.end) st.shape_is st.stands.are;
       events = ([], append-nil es ∙ es_is);
-      taken = st.items_are ∙ sym (append-nil (all_taken st.calls.takes)) ∙ sym (items-behind shape first_count st.calls.takes [] (length es) reached)
-          ∙ ap (λ l. items_taken shape first_count l (length es)) (append-nil st.calls.takes);
+      taken = st.items_are ∙ sym (taken_all shape first_count st.calls.takes (length es) reached);
       told_is = subst (λ r. SaysTold (tells_closed r) (IsTold shape st.calls (length es))) (sym answers)
           (told-over shape st.calls st.calls.end (length es) refl (omega (arith, long)));
     }
@@ -176,8 +114,7 @@ taken_at shape p o es items (Some a) reply st is_due goes rests replied =
     let lower : 2 * length st.made ≤ length es = subst (λ l. 2 * length st.made ≤ length l) (sym st.events_are) (open-long C st.made o) in
     let (part, front) = front_at p.stage p st.calls st.made st.stands.made_is in
     let front_is : st.made ≡ take_phrases shape first_count st.calls.takes ++ part = front ∙ ap (λ s. take_phrases s first_count st.calls.takes ++ part) st.shape_is in
-    let reached : events_in (take_phrases shape first_count st.calls.takes) ≤ length es =
-    omega (arith, lower, ap length front_is, length-append (take_phrases shape first_count st.calls.takes) part) in
+    let reached : events_in (take_phrases shape first_count st.calls.takes) ≤ length es = grind (arith, length-append) in
     let not_ended : length es < events_in (take_program shape more) =
     omega (arith, upper, ap length program, length-append st.made (answered a true ∷ rest)) in
     record {
@@ -208,29 +145,15 @@ words-long shape n (item ∷ items) =
     omega (arith, words-long shape (suc n) items, length-append word (words_read shape (suc n) items), length-reads (n % capacity_of shape) item (width_of shape), shape.has_digits)
 
 items-long : (shape : Shape) (k : Count) (front : List Made) (items : List ℕ) → length items ≤ length (front ++ items_phrase shape k items)
-items-long shape k front items =
-    let words : List Made = words_read shape k.number items in
-    omega (arith, words-long shape k.number items, length-append front (items_phrase shape k items), length-append words (batch_phrase shape C k items))
+items-long shape k front items = grind (arith, words-long, length-append)
 
 take-long : (shape : Shape) (k : Count) (x : Take) → length (taken_of x) ≤ length (take_phrase shape k x)
-take-long shape k (Item seen items) = items-long shape k (accesses_before_word (Item seen items)) items
-take-long shape k (ItemAfterClose seen again items) = items-long shape k (accesses_before_word (ItemAfterClose seen again items)) items
-take-long shape k (Empty seen) = omega arith
+take-long shape k x = grind (arith, items-long)
 
 takes-long : (shape : Shape) (k : Count) (xs : List Take) → length (all_taken xs) ≤ length (take_phrases shape k xs)
 takes-long shape k [] = omega arith
-takes-long shape k (x ∷ xs) =
-    omega (
-      arith,
-      take-long shape k x,
-      takes-long shape (count_after shape k x) xs,
-      length-append (taken_of x) (all_taken xs),
-      length-append (take_phrase shape k x) (take_phrases shape (count_after shape k x) xs),
-    )
+takes-long shape k (x ∷ xs) = grind (arith, take-long, length-append, takes-long shape (count_after shape k x) xs)
 
 -- no more items were taken than there are events
 pub few_taken : (shape : Shape) (r : TakeReading) (es : List Event) (items : List ℕ) → TakesStand shape r es items → length items ≤ length es
-few_taken shape r es items st =
-    let (part, front) = front_at r.consumer.stage r.consumer st.calls st.made st.stands.made_is in
-    let lower : 2 * length st.made ≤ length es = subst (λ l. 2 * length st.made ≤ length l) (sym st.events_are) (open-long C st.made r.open_access) in
-    omega (arith, lower, ap length st.items_are, ap length front, length-append (take_phrases r.consumer.shape first_count st.calls.takes) part, takes-long r.consumer.shape first_count st.calls.takes)
+few_taken shape r es items st = grind (arith, front_at, open-long, length-append, takes-long)

@@ -1,14 +1,14 @@
 -- The reader of takes: if it stops, the events are of no takes; if it continues, they are.
-use Rattle.std.proofs.Common.{◌≡◌, ◌⊎◌, inl, inr, ℕ, ◌≤◌, Bool, true, false, Option, Some, None, List, [], ◌∷◌, ◌++◌, length, nat_lt, if◌then◌else◌, refl, sym, ap, ap₂, subst, ◌∙◌, arith, append_assoc, append-nil, length-append}
+use Rattle.std.proofs.Common.{◌≡◌, ◌⊎◌, inl, inr, ℕ, ◌≤◌, Bool, true, false, Option, Some, None, List, [], ◌∷◌, ◌++◌, length, refl, sym, ap, subst, ◌∙◌, arith, append_assoc, append-nil, length-append}
+use Rattle.std.proofs.lemmas.Bool.Decides.{nat_tests}
 use Rattle.bits_core.specs.declared.events.Bit.{Bit}
 use Rattle.bits_core.specs.declared.events.Bit.TheVariants.{S, R, X, Cell}
-use Rattle.bits_core.specs.declared.events.Side.{Side}
-use Rattle.bits_core.specs.declared.events.Side.TheVariants.{P, C}
+use Rattle.bits_core.specs.declared.events.Side.TheVariants.{C}
 use Rattle.bits_core.specs.declared.events.Access.{Access}
 use Rattle.bits_core.specs.declared.events.Access.TheVariants as begins
 use Rattle.bits_core.specs.declared.events.Event.{Event}
 use Rattle.bits_core.specs.declared.shapes.Shape.{Shape}
-use Rattle.bits_core.specs.Made.{Made, Read, access_of, answered, begin_event, end_event, events_of, IsPrefix, opening_event}
+use Rattle.bits_core.specs.Made.{Made, Read, access_of, answered, end_event, events_of, IsPrefix, opening_event}
 use Rattle.register_core.specs.Row.{RowWrite, row_bit}
 use Rattle.register_core.specs.Word.{digit_reads}
 use Rattle.register_core.specs.WordState.{ReaderState, due_read}
@@ -18,7 +18,7 @@ use Rattle.bits_core.specs.Shape.{take_batch_of}
 use Rattle.ring_core.specs.Counts.{first_count}
 use Rattle.ring_core.specs.declared.replies.TakeReply.{TakeReply}
 use Rattle.ring_core.specs.Calls.{LastBitIsDue}
-use Rattle.ring_core.specs.Takes.{Takes, words_read, take_phrases, end_phrase, take_program, AreTakes}
+use Rattle.ring_core.specs.Takes.{Takes, words_read, take_phrases, take_program, AreTakes}
 use Rattle.ring_core.specs.Items.{Tells}
 use Rattle.ring_core.specs.GoingOn.{WritesTakeCount, EndInCellRead, TakesPart}
 use Rattle.ring_core.specs.declared.consumers.Stage.{Stage}
@@ -27,11 +27,10 @@ use Rattle.ring_core.specs.ConsumerState.{ConsumerState, IsBetweenWords, consume
 use Rattle.ring_core.specs.ConsumerCalls.{Finding, Once, Twice, finding_phrase, count_taken, TakeGoesOn, ConsumerMadeAt, ConsumerStands}
 use Rattle.ring_audit.specs.Sides.{AreOfTakes}
 use Rattle.ring_audit.specs.TakeReading.{TakeReading, TakesStand}
-use Rattle.ring_core.proofs.Readings.Phrases.{same_made}
 use Rattle.ring_core.proofs.Machines.Following.{events_of-append}
-use Rattle.ring_core.proofs.Machines.GoingOn.{access_back}
 use Rattle.ring_audit.proofs.Readers as readers
-use Rattle.ring_audit.proofs.Beginnings.{begin_is, same_access, GoesOnWith, GoesOnBy}
+use Rattle.ring_audit.proofs.Readers.{same_open}
+use Rattle.ring_audit.proofs.Beginnings.{same_access, GoesOnWith}
 use Rattle.ring_core.proofs.LawLemmas.{calls_are_first_takes, last_reads_are_one_takes, takes_go_on}
 use Rattle.ring_core.proofs.Machines.TakeCalls.{closed_tells, due_at-takes}
 
@@ -41,11 +40,6 @@ rest_on :
     (of_takes : AreOfTakes shape (es ++ e ∷ [])) → GoesOnWith C st.made (take_program shape of_takes.0) e
 rest_on shape r es items st e none (calls, are, begins) = readers.rest_on C es st.made (take_program shape calls) r.open_access e st.events_are none begins
 
-work_on :
-    (shape : Shape) (r : TakeReading) (es : List Event) (items : List ℕ) (st : TakesStand shape r es items) (a : Access) (e : Event) → r.open_access ≡ Some a →
-    (of_takes : AreOfTakes shape (es ++ e ∷ [])) → GoesOnBy C st.made (take_program shape of_takes.0) (opening_event C a) e
-work_on shape r es items st a e some (calls, are, begins) = readers.work_on C es st.made (take_program shape calls) r.open_access a e st.events_are some begins
-
 -- ---- when it stops
 
 -- a 0 of the last bit
@@ -53,15 +47,10 @@ pub zero_at_last :
     (shape : Shape) (r : TakeReading) (es : List Event) (items : List ℕ) (a : Access) → TakesStand shape r es items → r.open_access ≡ Some a →
     due_take r.consumer ≡ Some a → LastBitIsDue shape C (due_take r.consumer) → AreOfTakes shape (es ++ end_event C (answered a false) ∷ []) → ⊥
 zero_at_last shape r es items a st some due (i, reads, last) of_takes =
-    let on = work_on shape r es items st a (end_event C (answered a false)) some of_takes in
-    let begun : begin_event C (answered a false) ≡ begin_event C on.next =
-    begin_is C (answered a false) ∙ ap (opening_event C) (access_back a false) ∙ on.begins in
-    let next_is : on.next ≡ answered a false = sym (same_made C (answered a false) on.next begun on.ends) in
-    let both : Some a ≡ Some (begins.Read (row_read_by C i)) = sym due ∙ reads in
-    let a_is : a ≡ begins.Read (row_read_by C i) = cc in
-    let next_reads : on.next ≡ Read (row_read_by C i) false = next_is ∙ ap (λ z. answered z false) a_is in
+    let (rest, whole) = readers.answered_next C es st.made (take_program shape of_takes.0) r.open_access a false st.events_are some of_takes.2 in
+    let a_is : a ≡ begins.Read (row_read_by C i) = same_open (due_take r.consumer) a _ due reads in
     let clash : false ≡ true =
-    last_reads_are_one_takes shape of_takes.0 of_takes.1 st.made i false on.rest (on.whole_is ∙ ap (λ z. st.made ++ z ∷ on.rest) next_reads) last in
+    last_reads_are_one_takes shape of_takes.0 of_takes.1 st.made i false rest (whole ∙ ap (λ z. st.made ++ answered z false ∷ rest) a_is) last in
     absurd (cc)
 
 -- a take is under way while an access is due
@@ -74,55 +63,35 @@ due_takes p a e = due_at-takes p.stage p a e
 -- the last of two lists
 pub last_same : (xs ys : List Made) (x y : Made) → xs ++ x ∷ [] ≡ ys ++ y ∷ [] → x ≡ y
 last_same [] [] x y e = cc
-last_same [] (z ∷ ys) x y e = absurd (no_end ys y (cc))
-  where
-    no_end : (ys : List Made) (y : Made) → [] ≡ ys ++ y ∷ [] → ⊥
-    no_end [] y e = absurd (cc)
-    no_end (z ∷ ys) y e = absurd (cc)
-last_same (w ∷ xs) [] x y e = absurd (no_end xs x (cc))
-  where
-    no_end : (xs : List Made) (x : Made) → xs ++ x ∷ [] ≡ [] → ⊥
-    no_end [] x e = absurd (cc)
-    no_end (z ∷ xs) x e = absurd (cc)
+last_same [] (z ∷ ys) x y e = absurd (omega (arith, ap length e, length-append ys (y ∷ [])))
+last_same (w ∷ xs) [] x y e = absurd (omega (arith, ap length e, length-append xs (x ∷ [])))
 last_same (w ∷ xs) (z ∷ ys) x y e = last_same xs ys x y (cc)
 
 -- a scan and a count write are of no cell
 scan_reads_row : (s : ScanState) (j i : ℕ) → due_scan s ≡ Some (begins.Read (Cell j i)) → ⊥
-scan_reads_row s j i e = by s.found s.side refl refl
-  where
-    by : (found : Bool) (side : Side) → s.found ≡ found → s.side ≡ side → ⊥
-    by true side is by_side = let clash : None ≡ Some (begins.Read (Cell j i)) = sym (ap (λ b. if b then None else Some (begins.Read (row_read_by s.side s.zeros))) is) ∙ e in absurd (cc)
-    by false P is by_side =
-        let clash : Some (begins.Read (R s.zeros)) ≡ Some (begins.Read (Cell j i)) =
-        sym (ap₂ (λ b t. if b then None else Some (begins.Read (row_read_by t s.zeros))) is by_side) ∙ e in absurd (cc)
-    by false C is by_side =
-        let clash : Some (begins.Read (S s.zeros)) ≡ Some (begins.Read (Cell j i)) =
-        sym (ap₂ (λ b t. if b then None else Some (begins.Read (row_read_by t s.zeros))) is by_side) ∙ e in absurd (cc)
+scan_reads_row s j i e = grind arith
 
 row_reads_nothing : (row : ℕ → Bit) (ws : List RowWrite) (b : Bit) → first_access row ws ≡ Some (begins.Read b) → ⊥
-row_reads_nothing row [] b e = absurd (cc)
-row_reads_nothing row (w ∷ ws) b e = absurd (cc)
+row_reads_nothing row ws b e = grind arith
 
 pub count_writes_bits : (p : ConsumerState) (a : Access) → p.stage ≡ Counting → due_take p ≡ Some a → (j i : ℕ) → a ≡ begins.Read (Cell j i) → ⊥
-count_writes_bits p a stage due j i reads =
-    row_reads_nothing (row_bit p.row.side) (due_writes p.row) (Cell j i) (sym (ap (λ st. consumer_due_at st p) stage) ∙ due ∙ ap Some reads)
+count_writes_bits p a stage due j i reads = grind (arith, row_reads_nothing)
 
 -- a take that has found items has scanned the row last
 found_last : (look : Finding) → (before : List Made) × (i : ℕ) × (finding_phrase look ≡ before ++ Read (S i) true ∷ [])
 found_last (Once seen) = (zero_reads (row_read_by C) seen, seen, refl)
-found_last (Twice seen again) = (
-  scan_phrase (row_read_by C) seen ++ Read X true ∷ zero_reads (row_read_by C) again,
-  again,
-  sym (append_assoc (scan_phrase (row_read_by C) seen) (Read X true ∷ zero_reads (row_read_by C) again) (Read (S again) true ∷ [])),
-)
+found_last (Twice seen again) =
+    grind (arith, append_assoc (scan_phrase (row_read_by C) seen) (Read X true ∷ zero_reads (row_read_by C) again) (Read (S again) true ∷ []))
 
 no_words : (front made : List Made) (look : Finding) → made ≡ front ++ ((finding_phrase look ++ []) ++ []) → EndInCellRead made → ⊥
 no_words front made look made_is (before, j, i, v, e) =
     let (scans, c, looks) = found_last look in
-    let whole : made ≡ (front ++ scans) ++ Read (S c) true ∷ [] =
-    made_is ∙ ap (λ l. front ++ l) (append-nil (finding_phrase look ++ []) ∙ append-nil (finding_phrase look) ∙ looks) ∙ sym (append_assoc front scans (Read (S c) true ∷ [])) in
+    let whole : made ≡ (front ++ scans) ++ Read (S c) true ∷ [] = grind (arith, append-nil, append_assoc) in
     let last : Read (S c) true ≡ Read (Cell j i) v = last_same (front ++ scans) before (Read (S c) true) (Read (Cell j i) v) (sym whole ∙ e) in
     absurd (cc)
+
+first_digit : (w : ReaderState) (j : ℕ) → due_read w ≡ Some (begins.Read (Cell j 0)) → w.read ≡ 0
+first_digit w j due = grind (arith, nat_tests)
 
 -- after a digit of a cell, the first digit of one is due between words
 between_at :
@@ -134,7 +103,7 @@ between_at Checking p calls made j stage is due ends = absurd (cc)
 between_at Rescanning p calls made j stage is due ends = absurd (scan_reads_row p.scan j 0 due)
 between_at Counting p calls made j stage is due ends = absurd (row_reads_nothing (row_bit p.row.side) (due_writes p.row) (Cell j 0) due)
 between_at Loading p calls made j stage (rests, look, finds, fit, reads, words, made_is) due ends =
-    let unread : p.word.read ≡ 0 = first p.word due in
+    let unread : p.word.read ≡ 0 = first_digit p.word j due in
     let none : reads ≡ [] = words.made_is ∙ ap (digit_reads p.word.cell p.word.value) unread in
     let front : List Made = take_phrases p.shape first_count calls.takes in
     let n : ℕ = (count_taken p.shape calls).number in
@@ -144,17 +113,6 @@ between_at Loading p calls made j stage (rests, look, finds, fit, reads, words, 
       some = by_items p.items (made_is ∙ ap (λ l. front ++ ((finding_phrase look ++ words_read p.shape n p.items) ++ l)) none);
     }
   where
-    first : (w : ReaderState) → due_read w ≡ Some (begins.Read (Cell j 0)) → w.read ≡ 0
-    first w due = by (nat_lt w.read w.width) refl
-      where
-        by : (b : Bool) → nat_lt w.read w.width ≡ b → w.read ≡ 0
-        by true is =
-            let both : Some (begins.Read (Cell w.cell w.read)) ≡ Some (begins.Read (Cell j 0)) = sym (ap (λ b. if b then Some (begins.Read (Cell w.cell w.read)) else None) is) ∙ due in
-            cc
-        by false is =
-            let clash : None ≡ Some (begins.Read (Cell j 0)) = sym (ap (λ b. if b then Some (begins.Read (Cell w.cell w.read)) else None) is) ∙ due in
-            absurd (cc)
-
     by_items : (items : List ℕ) → made ≡ take_phrases p.shape first_count calls.takes ++ ((finding_phrase look ++ words_read p.shape (count_taken p.shape calls).number items) ++ []) → 1 ≤ length items
     by_items [] is = absurd (no_words (take_phrases p.shape first_count calls.takes) made look is ends)
     by_items (item ∷ items) is = omega arith
@@ -163,12 +121,7 @@ between_at Loading p calls made j stage (rests, look, finds, fit, reads, words, 
 pub front_at :
     (st : Stage) (p : ConsumerState) (calls : Takes) (made : List Made) → ConsumerMadeAt st p calls made →
     (part : List Made) × (made ≡ take_phrases p.shape first_count calls.takes ++ part)
-front_at Idle p calls made (rests, is) = (end_phrase calls.end, is)
-front_at Scanning p calls made (rests, reads, stands, is) = (reads, is)
-front_at Checking p calls made (rests, seen, none, is) = (_, is)
-front_at Rescanning p calls made (rests, seen, none, reads, stands, is) = (_, is)
-front_at Loading p calls made (rests, look, finds, fit, reads, stands, is) = (_, is)
-front_at Counting p calls made (look, finds, fit, writes, stands, is) = (_, is)
+front_at st p calls made h1 = grind arith
 
 -- the access that begins is the one that is due, or after a complete word one reads the next and the other counts
 next_or :
@@ -221,32 +174,20 @@ pub counts_else :
     ((access : Access) → due ≡ Some access → (is_taking p ≡ true) × TakeGoesOn p.shape p.wanted st.calls st.made access) →
     (due ≡ Some a → ⊥) → WritesTakeCount a → AreOfTakes shape (es ++ opening_event C a ∷ []) → ⊥
 counts_else shape r es items p due a i v st none same stands due_is goes wrong (k, w, writes) of_takes =
-    elim (next_or shape r es items p (begins.Write (R i) v) a st none same stands (goes (begins.Write (R i) v) due_is).1 of_takes) [
-      | inl is ↦ wrong (due_is ∙ ap Some (sym is))
-      | inr (ends, inl ((j, reads), counts, more)) ↦ absurd (cc)
-      | inr (ends, inr (counts, (j, reads), less)) ↦ (let clash : begins.Write (R k) w ≡ begins.Read (Cell j 0) = sym writes ∙ reads in absurd (cc))
-    ]
+    grind (arith, next_or shape r es items p (begins.Write (R i) v) a st none same stands (goes (begins.Write (R i) v) due_is).1 of_takes)
 
 -- once a take has been started when none was under way, one is, or the last one returned Closed
 pub taking_or_told :
     (old new : ConsumerState) (reply : Option TakeReply) (most : ℕ) → (old.told ≡ false → (is_taking new ≡ true) × (new.wanted ≡ most)) →
     (old.told ≡ true → new ≡ record old { reply = reply }) →
     (is_taking new ≡ true) ⊎ (new.told ≡ true)
-taking_or_told old new reply most begun refused = by_told old.told refl
-  where
-    by_told : (b : Bool) → old.told ≡ b → (is_taking new ≡ true) ⊎ (new.told ≡ true)
-    by_told false e = inl (begun e).0
-    by_told true e = inr (ap (λ (p : ConsumerState). p.told) (refused e) ∙ e)
+taking_or_told old new reply most begun refused = grind arith
 
 -- and it asks for as many items as were requested
 pub wants_most :
     (old new : ConsumerState) (reply : Option TakeReply) (most : ℕ) → (old.told ≡ false → (is_taking new ≡ true) × (new.wanted ≡ most)) →
     (old.told ≡ true → new ≡ record old { reply = reply }) → is_taking old ≡ false → is_taking new ≡ true → new.wanted ≡ most
-wants_most old new reply most begun refused idle taking = by_told old.told refl
-  where
-    by_told : (b : Bool) → old.told ≡ b → new.wanted ≡ most
-    by_told false e = (begun e).1
-    by_told true e = let clash : true ≡ false = sym taking ∙ ap is_taking (refused e) ∙ idle in absurd (cc)
+wants_most old new reply most begun refused idle taking = grind arith
 
 -- the reader stands after the same events once a take has been started
 pub begun_stands :
@@ -255,14 +196,4 @@ pub begun_stands :
     ((calls : Takes) (made : List Made) → ConsumerStands p calls made → is_taking p ≡ false) →
     ((calls : Takes) (made : List Made) → ConsumerStands p calls made → ConsumerStands q calls made) →
     (es : List Event) (items : List ℕ) → TakesStand p.shape (record { consumer = p; open_access = o }) es items → TakesStand p.shape (record { consumer = q; open_access = o }) es items
-begun_stands p q o reply most begun refused most_is same idle stands es items st =
-    let wants : is_taking q ≡ true → q.wanted ≡ take_batch_of p.shape = λ taking. wants_most p q reply most begun refused (idle st.calls st.made st.stands) taking ∙ most_is in
-    record {
-      calls = st.calls;
-      made = st.made;
-      shape_is = same;
-      stands = stands st.calls st.made st.stands;
-      events_are = st.events_are;
-      items_are = st.items_are;
-      wants = record { before_count = λ taking other. wants taking; behind_word = λ taking none ends. wants taking };
-    }
+begun_stands p q o reply most begun refused most_is same idle stands es items st = grind (arith, wants_most)

@@ -1,21 +1,17 @@
 -- An access of the consumer that ends: the reader stands after it, with the items that it brought.
-use Rattle.std.proofs.Common.{◌≡◌, ℕ, Bool, true, Option, Some, None, List, [], ◌∷◌, ◌++◌, refl, sym, ap, subst, ◌∙◌, append-nil}
+use Rattle.std.proofs.Common.{◌≡◌, ℕ, Bool, true, Option, Some, None, List, [], ◌∷◌, ◌++◌, append-nil, arith}
 use Rattle.bits_core.specs.declared.events.Side.TheVariants.{C}
 use Rattle.bits_core.specs.declared.events.Access.{Access}
-use Rattle.bits_core.specs.declared.events.Access.TheVariants as begins
-use Rattle.bits_core.specs.declared.events.Bit.TheVariants.{Cell}
 use Rattle.bits_core.specs.declared.events.Event.{Event}
 use Rattle.bits_core.specs.declared.shapes.Shape.{Shape}
-use Rattle.bits_core.specs.Made.{Made, Read, access_of, answered, end_event}
+use Rattle.bits_core.specs.Made.{Made, answered, end_event}
 use Rattle.ring_core.specs.declared.consumers.Stage.TheVariants.{Counting}
 use Rattle.ring_core.specs.declared.replies.TakeReply.{TakeReply}
 use Rattle.ring_core.specs.declared.replies.TakeReply.TheVariants as replies
 use Rattle.ring_core.specs.Takes.{Takes}
-use Rattle.ring_core.specs.GoingOn.{EndInCellRead}
 use Rattle.ring_core.specs.ConsumerState.{ConsumerState, due_take, is_taking}
-use Rattle.ring_core.specs.ConsumerCalls.{ConsumerStands, ConsumerHasMoved, IsReplyToTake, IsAfterTake}
+use Rattle.ring_core.specs.ConsumerCalls.{ConsumerStands, ConsumerHasMoved, IsReplyToTake}
 use Rattle.ring_audit.specs.TakeReading.{TakeReading, TakesStand, WantsAll, HasReadTake, step_by}
-use Rattle.ring_core.proofs.Machines.GoingOn.{access_back}
 use Rattle.ring_audit.proofs.Readers.{ended}
 use Rattle.ring_audit.proofs.TakeItems.{replied, items-after}
 use Rattle.ring_audit.proofs.TakeReads.{due_takes, last_same, count_writes_bits}
@@ -25,16 +21,7 @@ still_wants :
     (shape : Shape) (old new : ConsumerState) (a : Access) (v : Bool) (made : List Made) → due_take old ≡ Some a → new.wanted ≡ old.wanted →
     (old.stage ≡ Counting → is_taking new ≡ true → new.stage ≡ Counting) → WantsAll shape (record { consumer = old; open_access = Some a }) made →
     WantsAll shape (record { consumer = new; open_access = None }) (made ++ answered a v ∷ [])
-still_wants shape old new a v made due wanted counts wants = record {
-  before_count = λ taking other. wanted ∙ wants.before_count (due_takes old a due) (λ stage. other (counts stage taking));
-  behind_word = λ taking none ends. wanted ∙ wants.before_count (due_takes old a due) (λ stage. reads_no_cell stage ends);
-}
-  where
-    reads_no_cell : old.stage ≡ Counting → EndInCellRead (made ++ answered a v ∷ []) → ⊥
-    reads_no_cell stage (before, j, i, w, e) =
-        let last : answered a v ≡ Read (Cell j i) w = last_same made before (answered a v) (Read (Cell j i) w) e in
-        let reads : a ≡ begins.Read (Cell j i) = sym (access_back a v) ∙ ap access_of last in
-        count_writes_bits old (begins.Read (Cell j i)) stage (due ∙ ap Some reads) j i refl
+still_wants shape old new a v made due wanted counts wants = grind (arith, due_takes, last_same, count_writes_bits)
 
 pub finish_goes_on :
     (shape : Shape) (old new : ConsumerState) (a : Access) (v : Bool) (reply : Option TakeReply) → due_take old ≡ Some a → new.shape ≡ old.shape →
@@ -45,24 +32,11 @@ pub finish_goes_on :
     TakesStand shape (record { consumer = new; open_access = None }) (es ++ end_event C (answered a v) ∷ []) (items ++ replied reply new.items)
 finish_goes_on shape old new a v reply due same wanted counts moves replies es items st =
     let (more, stands, after) = moves st.calls st.made a st.stands due in
-    let after_one : IsAfterTake old.shape old.wanted true (is_taking new) st.calls more = subst (λ b. IsAfterTake old.shape old.wanted b (is_taking new) st.calls more) (due_takes old a due) after in
-    record {
-      calls = more;
-      made = st.made ++ answered a v ∷ [];
-      shape_is = same ∙ st.shape_is;
-      stands = stands;
-      events_are = ended C es st.made (Some a) a v st.events_are refl;
-      items_are = ap (λ l. l ++ replied reply new.items) st.items_are
-          ∙ sym (items-after old.shape old.wanted (is_taking new) st.calls more reply new.items after_one (replies more (st.made ++ answered a v ∷ []) stands) stands.items_are);
-      wants = still_wants shape old new a v st.made due wanted counts st.wants;
-    }
+    grind (arith, due_takes, ended, items-after, still_wants)
 
 -- the reader has read the event
 pub has_read :
     (shape : Shape) (old new : TakeReading) (e : Event) (reply : Option TakeReply) →
     ((es : List Event) (items : List ℕ) → TakesStand shape old es items → TakesStand shape new (es ++ e ∷ []) (items ++ replied reply new.consumer.items)) →
     HasReadTake shape old new e (step_by reply)
-has_read shape old new e None on = λ es items st. subst (TakesStand shape new (es ++ e ∷ [])) (append-nil items) (on es items st)
-has_read shape old new e (Some (replies.Item item)) on = on
-has_read shape old new e (Some replies.Empty) on = λ es items st. subst (TakesStand shape new (es ++ e ∷ [])) (append-nil items) (on es items st)
-has_read shape old new e (Some replies.Closed) on = λ es items st. subst (TakesStand shape new (es ++ e ∷ [])) (append-nil items) (on es items st)
+has_read shape old new e reply on = grind (arith, append-nil)

@@ -21,8 +21,8 @@ use Rattle.ring_seats.specs.Ring.{RingEnd}
 use Rattle.ring_seats.specs.Steppers.{IsSameEnd, StandsAs}
 use Rattle.ring_ends.specs.Ends.{HasClosed, HasPut, HasPutAll, HasTaken, HasTakenAll, number_brought}
 use Rattle.ring_ends.specs.Meetings.{ClosesAre, Meets, TellsAre}
-use Rattle.ring_ends.specs.Stored.{StoresMore, TakesMore, item_stored, number_stored}
-use Rattle.ring_held.specs.Held.{FreshEnds, TakesArePrefix}
+use Rattle.ring_ends.specs.Stored.{StoresMore, TakesArePrefix, TakesMore, item_stored, number_stored}
+use Rattle.ring_held.specs.Held.{FreshEnds}
 
 -- ---- the numbers of the replies
 

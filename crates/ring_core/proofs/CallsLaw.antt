@@ -1,19 +1,18 @@
 -- The law of the ring over calls, from the law over spans.
-use Rattle.std.proofs.Common.{◌≡◌, inl, inr, ℕ, suc, ◌+◌, ◌-◌, ◌*◌, ◌%◌, ◌<◌, ◌≤◌, true, false, Some, List, [], ◌∷◌, ◌++◌, length, refl, sym, ap, subst, ◌∙◌, arith, length-append}
+use Rattle.std.proofs.Common.{◌≡◌, ℕ, suc, ◌+◌, ◌-◌, ◌*◌, ◌%◌, ◌<◌, ◌≤◌, false, Some, List, [], ◌++◌, length, refl, sym, ap, subst, ◌∙◌, arith, length-append}
 use Rattle.std.specs.Prelude.{slice_get}
 use Rattle.std.proofs.Math.Nat.{suc-mul}
 use Rattle.std.proofs.lemmas.Option.{slice_get_within}
 use Rattle.bits_core.specs.declared.events.Side.{Side}
 use Rattle.bits_core.specs.declared.events.Side.TheVariants.{P, C}
-use Rattle.bits_core.specs.declared.events.Bit.TheVariants.{X}
 use Rattle.bits_core.specs.declared.events.Event.{Event}
 use Rattle.bits_core.specs.declared.shapes.Shape.{Shape}
 use Rattle.bits_core.specs.Shape.{batch_of, capacity_of, modulus_of, take_batch_of, width_of}
 use Rattle.register_core.specs.Phrases.{word_read, word_write}
 use Rattle.bits_core.specs.Bits.{other}
-use Rattle.bits_core.specs.Made.{Made, Read, subhistory, clock, place_of, IsPlaceOf, IsPrefix}
-use Rattle.register_core.specs.ScanState.{scan_phrase, row_read_by}
-use Rattle.ring_core.specs.Counts.{distance, first_count}
+use Rattle.bits_core.specs.Made.{Made, subhistory, clock, place_of, IsPlaceOf, IsPrefix}
+use Rattle.register_core.specs.ScanState.{row_read_by}
+use Rattle.ring_core.specs.Counts.{first_count}
 use Rattle.ring_core.specs.Puts.{Put, Puts, Stored, Full, stored_in, close_phrase, put_program}
 use Rattle.ring_core.specs.Takes.{accesses_before_word, Take, Item, ItemAfterClose, Empty, Takes, taken_in, take_program}
 use Rattle.ring_core.specs.Items.{events_in}
@@ -31,7 +30,7 @@ use Rattle.ring_core.proofs.OverSpans.SpanItems.{within_items}
 use Rattle.ring_core.proofs.OverSpans.Looks.{puts_as_looks, takes_as_looks, proper_puts, proper_takes, puts_items, takes_items, asks_word}
 use Rattle.ring_core.proofs.Machines.Lengths.{length-scan}
 use Rattle.ring_core.proofs.CloseEnds.{place_within, not_ended}
-use Rattle.ring_core.proofs.OverSpans.CallSpans.{second_scan, stands_at, put_items, put_size, put_has_span, item_has_span, empty_has_span, after_has_second}
+use Rattle.ring_core.proofs.OverSpans.CallSpans.{stands_at, put_items, put_size, put_has_span, item_has_span, empty_has_span, after_has_second}
 use Rattle.ring_core.proofs.EndedCounts.{puts_ended_is, takes_begun_is}
 use Rattle.ring_core.proofs.ScanPlaces.{ScanSpan, scan_there, none-close}
 use Rattle.ring_core.proofs.CallCounts.{stored_ended_is, taken_begun_is, put_tally, take_tally}
@@ -43,12 +42,6 @@ interval_at s h i i' e e' start stop p q r = subst (λ m. IsInterval s h m e' st
 -- a scan has an event
 scan_some : (s : Side) (seen : ℕ) → 1 ≤ scan_events s seen
 scan_some s seen = omega (arith, length-scan (row_read_by s) seen)
-
--- a span counts no more than the most
-few_at : (most : ℕ) (xs : List Span) → AllProper most xs → (s n : ℕ) (x : Span) → IsSpanAt xs s n x → counts x.outcome ≤ most
-few_at most [] h s n x st = elim st [ ]
-few_at most (y ∷ ys) h s n x (inl st) = omega (arith, h.0.few, ap (λ (z : Span). counts z.outcome) st.2)
-few_at most (y ∷ ys) h s n x (inr st) = few_at most ys h.1 st.0 st.1 x st.4
 
 -- the take of an item by its span
 pub record HasWord (shape : Shape) (calls : Takes) (n index item word stop : ℕ) : Type 0 where
@@ -62,28 +55,10 @@ pub record HasWord (shape : Shape) (calls : Takes) (n index item word stop : ℕ
 has_word :
     (shape : Shape) (calls : Takes) (x : Take) (n start stop index item word : ℕ) → IsTakeAt shape calls x n start stop → slice_get (taken.taken_of x) index ≡ Some item →
     word ≡ start + events_in (accesses_before_word x) + 2 * (index * width_of shape) → HasWord shape calls n index item word stop
-has_word shape calls (Item seen items) n start stop index item word at e f =
-    let z = item_has_span shape calls seen items n start stop at in
-    record {
-      start = start;
-      span = z.span;
-      stands = z.stands;
-      listed = ap (λ o. slice_get (items_of o) index) z.outcome_is ∙ e;
-      word_is = omega (arith, z.scan_is, f);
-      stop_is = z.stop_is;
-    }
+has_word shape calls (Item seen items) n start stop index item word at e f = grind (arith, item_has_span shape calls seen items n start stop)
 has_word shape calls (ItemAfterClose seen again items) n start stop index item word at e f =
     let z = after_has_second shape calls seen again items n start stop at in
-    let a : List Made = scan_phrase (row_read_by C) seen in
-    let b : List Made = scan_phrase (row_read_by C) again in
-    record {
-      start = second_scan start seen;
-      span = z.span;
-      stands = z.stands;
-      listed = ap (λ o. slice_get (items_of o) index) z.outcome_is ∙ e;
-      word_is = omega (arith, z.scan_is, f, length-append a (Read X true ∷ b), length-append a (Read X true ∷ []));
-      stop_is = z.stop_is;
-    }
+    grind (arith, length-append)
 has_word shape calls (Empty seen) n start stop index item word at e f = absurd (cc)
 
 module _ (shape : Shape) (h : List Event) (puts : Puts) (takes : Takes) (run : IsRun shape h puts takes)
@@ -114,10 +89,7 @@ module _ (shape : Shape) (h : List Event) (puts : Puts) (takes : Takes) (run : I
 
   pub within : IsWithin shape h puts takes
   within t =
-      let (few, room) = law.within t in
-      let p : ℕ = clock P h t in
-      let c : ℕ = clock C h t in
-      (omega (arith, few, puts_begun_are p, takes_begun_are c), omega (arith, room, puts_begun_are p, takes_begun_are c))
+      grind (arith, puts_begun_are, takes_begun_are)
 
   -- ---- the ranges
 
@@ -135,22 +107,8 @@ module _ (shape : Shape) (h : List Event) (puts : Puts) (takes : Takes) (run : I
       let last : ℕ = place_of s h e in
       let at_first : IsPlaceOf s h start first = subhistory_has_place s h start (omega (arith, l, some)) in
       let at_last : IsPlaceOf s h e last = subhistory_has_place s h e (omega (arith, l, some)) in
-      let same : start + (x.scan - 1) ≡ e = omega (arith, scan_is, some) in
       let (counted, are_first, tallies) = numbers r.write in
-      let number_is : r.number ≡ items counted = r.tallies ∙ tallies in
-      record {
-        first = first;
-        last = last;
-        begins = at_first;
-        ends = at_last;
-        counted = counted;
-        are_first = are_first;
-        value = sym seen_is ∙ r.value ∙ ap (λ n. n % modulus_of shape) number_is;
-        not_older = omega (arith, ends (clock (other s) h first), r.not_older first (at_first.before, at_first.past), number_is);
-        not_newer = omega (arith, begins (clock (other s) h last), r.not_newer last (at_last.before ∙ sym same, at_last.past ∙ ap suc (sym same)), number_is);
-        low = omega (arith, r.low, number_is);
-        high = omega (arith, r.high, number_is);
-      }
+      grind (arith, items)
 
   -- the span of a scan comes after the items counted when it begins
   behind :
@@ -158,8 +116,7 @@ module _ (shape : Shape) (h : List Event) (puts : Puts) (takes : Takes) (run : I
       (start n seen : ℕ) (made : List Made) → start ≡ events_in made → n ≡ begun start → (z : ScanSpan s xs (2 * length made) seen) → IsSpanAt xs start n z.span
   behind s most xs proper begun begun_are start n seen made start_is n_is z =
       let there : 2 * length made + 0 ≡ start = omega (arith, start_is) in
-      let here : counts_begun xs start ≡ z.number = sym (ap (counts_begun xs) there) ∙ begun_at most xs proper (2 * length made) z.number z.span z.stands 0 (omega arith) in
-      stands_at xs (2 * length made) start z.number n z.span (sym start_is) (sym here ∙ begun_are start ∙ sym n_is) z.stands
+      grind (arith, begun_at, stands_at)
 
   pub put_range : PutsAreInRange shape h puts takes
   put_range n start seen (before, after, program, start_is) l n_is =
@@ -167,8 +124,7 @@ module _ (shape : Shape) (h : List Event) (puts : Puts) (takes : Takes) (run : I
       scan_there P shape first_count (put_looks puts.puts) (close_phrase puts.closes) (none-close P puts.closes) before after seen
       (sym (puts_as_looks shape first_count puts.puts puts.closes) ∙ program) in
       let stands = behind P (batch_of shape) (put_spans shape puts) (proper_puts shape puts run.puts_follow.are) (puts_begun shape puts) puts_begun_are start n seen before start_is n_is z in
-      reads_count P start seen z.span takes.takes (taken_in 0) (takes_ended shape takes) (takes_begun shape takes) (take_spans shape takes) (n - (capacity_of shape + take_batch_of shape)) n
-      takes_ended_are takes_begun_are take_number z.seen_is z.scan_is l (law.put_range start n z.span stands (omega (arith, l, z.scan_is)))
+      grind (arith, reads_count, takes_ended_are, takes_begun_are, take_number)
 
   pub take_range : TakesAreInRange shape h puts takes
   take_range k start seen (before, after, program, start_is) l k_is =
@@ -176,8 +132,7 @@ module _ (shape : Shape) (h : List Event) (puts : Puts) (takes : Takes) (run : I
       scan_there C shape first_count (take_looks takes.takes takes.end) [] tt before after seen
       (sym (takes_as_looks shape first_count takes.takes takes.end) ∙ program) in
       let stands = behind C (take_batch_of shape) (take_spans shape takes) (proper_takes shape takes run.takes_follow.are) (takes_begun shape takes) takes_begun_are start k seen before start_is k_is z in
-      reads_count C start seen z.span puts.puts (stored_in 0) (puts_ended shape puts) (puts_begun shape puts) (put_spans shape puts) (k - batch_of shape) (k + capacity_of shape)
-      puts_ended_are puts_begun_are put_number z.seen_is z.scan_is l (law.take_range start k z.span stands (omega (arith, l, z.scan_is)))
+      grind (arith, reads_count, puts_ended_are, puts_begun_are, put_number)
 
   -- ---- words
 
@@ -219,10 +174,8 @@ module _ (shape : Shape) (h : List Event) (puts : Puts) (takes : Takes) (run : I
       let size : suc x.index * w ≡ x.index * w + w = suc-mul x.index w in
       let size' : suc y.index * w ≡ y.index * w + w = suc-mul y.index w in
       let digits : 0 < w = shape.has_digits in
-      let x_number : 0 + x.number + x.index ≡ x.number + x.index = omega arith in
       let y_number : 0 + y.number + y.index ≡ y.number + y.index = omega arith in
-      let same : (x.number + x.index) % capacity_of shape ≡ (y.number + y.index) % capacity_of shape =
-      ap (λ i. i % capacity_of shape) (sym x_number) ∙ x.cell_is ∙ sym y.cell_is ∙ ap (λ i. i % capacity_of shape) y_number in
+      let same : (x.number + x.index) % capacity_of shape ≡ (y.number + y.index) % capacity_of shape = grind arith in
       law.quiet x.start x.number x.index x.span x.stands (omega (arith, slice_get_within x.items x.index x.item x.listed, ap counts x.outcome_is))
       y.start y.number y.index y.span y.stands (omega (arith, slice_get_within y.items y.index y.item y.listed, ap counts y.outcome_is)) same start stop start' stop'
       (interval_at P h word _ _ _ start stop (omega (arith, word_is, x.place)) (omega (arith, word_is, x.place, size, digits)) on)
@@ -233,8 +186,7 @@ module _ (shape : Shape) (h : List Event) (puts : Puts) (takes : Takes) (run : I
   items t k i item start stop x at has l =
       let w : ℕ = width_of shape in
       let y = has_word shape takes x k start stop i item (start + events_in (accesses_before_word x) + 2 * (i * w)) at has refl in
-      let size : suc i * w ≡ i * w + w = suc-mul i w in
-      law.items t y.start k i y.span item y.stands y.listed (omega (arith, y.word_is, l, size))
+      grind (arith, suc-mul)
 
   -- ---- empty and full
 
@@ -242,7 +194,6 @@ module _ (shape : Shape) (h : List Event) (puts : Puts) (takes : Takes) (run : I
   empty seen k start stop at l =
       let z = empty_has_span shape takes seen k start stop at in
       let long = asks_word C shape (take_looks takes.takes takes.end) start k z.span false z.stands z.outcome_is in
-      let some : 1 ≤ scan_events C seen = scan_some C seen in
       let first : ℕ = place_of C h start in
       let is_first : IsPlaceOf C h start first = subhistory_has_place C h start (omega (arith, l, z.stop_is, long)) in
       let (few, not_closed) = law.empty start k z.span z.stands z.outcome_is (omega (arith, l, z.stop_is)) first is_first in (
@@ -258,8 +209,7 @@ module _ (shape : Shape) (h : List Event) (puts : Puts) (takes : Takes) (run : I
       let some : 1 ≤ scan_events P seen = scan_some P seen in
       let first : ℕ = place_of P h start in
       let is_first : IsPlaceOf P h start first = subhistory_has_place P h start (omega (arith, l, z.stop_is, z.scan_is, some)) in
-      let few = law.full start n z.span z.stands (ap counts z.outcome_is) (omega (arith, l, z.stop_is)) first is_first in
-      (first, is_first, omega (arith, few, takes_ended_are (clock C h first)))
+      grind (arith, takes_ended_are)
 
   pub fill : FillIsFresh shape h puts takes
   fill seen stored n start stop at l fills =
@@ -267,11 +217,7 @@ module _ (shape : Shape) (h : List Event) (puts : Puts) (takes : Takes) (run : I
       let some : 1 ≤ scan_events P seen = scan_some P seen in
       let first : ℕ = place_of P h start in
       let is_first : IsPlaceOf P h start first = subhistory_has_place P h start (omega (arith, l, some)) in
-      let size : counts z.span.outcome ≡ length stored = ap counts z.outcome_is in
-      let d : ℕ → ℕ = λ v. distance (modulus_of shape) (n % modulus_of shape) v in
-      let filled : d z.span.seen + counts z.span.outcome ≡ capacity_of shape = ap (λ v. d v + counts z.span.outcome) z.seen_is ∙ ap (λ m. d seen + m) size ∙ fills in
-      let few = law.fill start n z.span z.stands filled (omega (arith, l, z.scan_is)) first is_first in
-      (first, is_first, omega (arith, few, size, takes_ended_are (clock C h first)))
+      grind (arith, takes_ended_are)
 
   pub drain : DrainIsFresh shape h puts takes
   drain seen items k start stop at l drains some_items =
@@ -280,10 +226,7 @@ module _ (shape : Shape) (h : List Event) (puts : Puts) (takes : Takes) (run : I
       let first : ℕ = place_of C h start in
       let is_first : IsPlaceOf C h start first = subhistory_has_place C h start (omega (arith, l, some)) in
       let size : counts z.span.outcome ≡ length items = ap counts z.outcome_is in
-      let d : ℕ → ℕ = λ v. distance (modulus_of shape) v (k % modulus_of shape) in
-      let drained : d z.span.seen ≡ counts z.span.outcome = ap d z.seen_is ∙ drains ∙ sym size in
-      let few = law.drain start k z.span z.stands (omega (arith, size, some_items)) drained (omega (arith, l, z.scan_is)) first is_first in
-      (first, is_first, omega (arith, few, size, puts_ended_are (clock P h first)))
+      grind (arith, puts_ended_are)
 
   pub closed : ClosedIsTrue shape h puts takes
   closed = law.closed

@@ -1,5 +1,5 @@
 -- If the close has not ended by the producer's clock, no write of the close bit has ended.
-use Rattle.std.proofs.Common.{◌≡◌, inl, inr, ℕ, zero, suc, ◌+◌, ◌<◌, ◌≤◌, Bool, true, false, if◌then◌else◌, List, [], ◌∷◌, length, take, drop, refl, sym, ap, ◌∙◌, arith}
+use Rattle.std.proofs.Common.{◌≡◌, ℕ, zero, suc, ◌+◌, ◌<◌, ◌≤◌, Bool, true, false, if◌then◌else◌, List, [], ◌∷◌, length, take, drop, refl, sym, ap, ◌∙◌, arith}
 use Rattle.bits_core.specs.declared.events.Side.{Side}
 use Rattle.bits_core.specs.declared.events.Side.TheVariants.{P, C}
 use Rattle.bits_core.specs.declared.events.Bit.TheVariants.{X}
@@ -47,11 +47,7 @@ goes_on_behind s [] (suc i) l = absurd (omega (arith, l))
 goes_on_behind s (e ∷ h) (suc i) l =
     let q : ℕ = first_place s (drop i h) in
     let next : suc i + q ≡ suc (i + q) = omega arith in
-    let rest : GoesOn s h (i + q) = goes_on_behind s h i (omega (arith, l)) in
-    rw next
-    (by_case (is_by s e)
-    (λ f. clock-yes s e h (suc (i + q)) f ∙ ap suc (rest ∙ sym (clock-yes s e h (i + q) f)))
-    (λ f. clock-no s e h (suc (i + q)) f ∙ rest ∙ ap suc (sym (clock-no s e h (i + q) f))))
+    grind (arith, goes_on_behind s h i (omega (arith, l)))
 
 take_all : {A : Type 0} → (xs : List A) (i : ℕ) → length xs ≤ i → take i xs ≡ xs
 take_all [] zero l = refl
@@ -61,13 +57,7 @@ take_all (x ∷ xs) (suc i) l = ap (λ l. x ∷ l) (take_all xs i (omega (arith,
 
 -- each of a side's own events is in the history
 pub place_within : (s : Side) (h : List Event) (i place : ℕ) → IsPlaceOf s h i place → place < length h
-place_within s h i place q = elim (at_most_or_above (length h) place) [
-  | inr l ↦ l
-  | inl l ↦ absurd (
-      let here : clock s h place ≡ length (subhistory s h) = ap (λ l. length (subhistory s l)) (take_all h place l) in
-      let past : clock s h (suc place) ≡ length (subhistory s h) = ap (λ l. length (subhistory s l)) (take_all h (suc place) (omega (arith, l))) in
-      omega (arith, here, past, q.before, q.past))
-]
+place_within s h i place q = grind (arith, at_most_or_above, take_all)
 
 pub not_ended :
     (shape : Shape) (h : List Event) (puts : Puts) → IsPrefix (subhistory P h) (events_of P (put_program shape puts)) →

@@ -1,5 +1,5 @@
 -- What reads of the close bit return: 0 only if the close had not ended before them, 1 only if it had begun.
-use Rattle.std.proofs.Common.{◌≡◌, ◌⊎◌, inl, inr, ℕ, zero, suc, ◌+◌, ◌*◌, ◌%◌, ◌<◌, ◌≤◌, Bool, true, false, Some, List, [], ◌∷◌, ◌++◌, length, refl, sym, ap, subst, ◌∙◌, arith, length-append}
+use Rattle.std.proofs.Common.{◌≡◌, ◌⊎◌, inl, inr, ℕ, zero, suc, ◌+◌, ◌*◌, ◌<◌, ◌≤◌, Bool, true, false, Some, List, [], ◌∷◌, ◌++◌, length, refl, sym, ap, subst, ◌∙◌, arith, length-append}
 use Rattle.std.specs.Prelude.{slice_get}
 use Rattle.bits_core.specs.declared.events.Side.{Side}
 use Rattle.bits_core.specs.declared.events.Side.TheVariants.{P, C}
@@ -8,18 +8,16 @@ use Rattle.bits_core.specs.declared.events.Act.TheVariants.{ReadEnd}
 use Rattle.bits_core.specs.declared.events.Access.TheVariants as begins
 use Rattle.bits_core.specs.declared.events.Event.{Event}
 use Rattle.bits_core.specs.declared.shapes.Shape.{Shape}
-use Rattle.bits_core.specs.Shape.{capacity_of, width_of}
 use Rattle.bits_core.specs.Intervals.{IsRead, IsWrite, IsHeld, HasOverlap, end_of}
 use Rattle.bits_core.specs.Lawful.{IsLawful}
 use Rattle.bits_core.specs.Made.{Made, Read, Write, access_of, events_of, subhistory, clock, place_of, IsPlaceOf, IsPrefix}
 use Rattle.register_core.specs.Row.{RowWrite, row_bit, writes_in}
-use Rattle.register_core.specs.Word.{word_write, digit_writes}
 use Rattle.register_core.specs.ScanState.{scan_phrase, zero_reads, row_read_by}
-use Rattle.ring_core.specs.Counts.{Count, first_count, batch_phrase}
+use Rattle.ring_core.specs.Counts.{Count, first_count}
 use Rattle.ring_core.specs.Puts.{Put, Stored, Full, stored_after, words_phrase, put_phrase, put_phrases, close_phrase}
 use Rattle.ring_core.proofs.Machines.Following.{length-events}
 use Rattle.ring_core.proofs.Readings.Cuts.{at_most_or_above}
-use Rattle.ring_core.proofs.OverSpans.Gates.{Clock, clock_up, clock_p, clock_c}
+use Rattle.ring_core.proofs.OverSpans.Gates.{Clock, clock_up, clock_p}
 use Rattle.ring_core.proofs.HistoryClocks.{clocks_of}
 use Rattle.ring_core.proofs.OwnEvents.{clock_within}
 use Rattle.bits_core.proofs.LawLemmas.{access_is_made, made_is_access, subhistory_has_one_place}
@@ -46,8 +44,7 @@ no_close-zeros s zero = no_close-nil
 no_close-zeros s (suc n) = no_close-append (zero_reads (row_read_by s) n) (Read (row_read_by s n) false ∷ []) (no_close-zeros s n) (no_close-first (Read (row_read_by s n) false) [] (λ v f. absurd (cc)) no_close-nil)
 
 no_close-scan : (s : Side) (c : ℕ) → NoClose (scan_phrase (row_read_by s) c)
-no_close-scan s c =
-    no_close-append (zero_reads (row_read_by s) c) (Read (row_read_by s c) true ∷ []) (no_close-zeros s c) (no_close-first (Read (row_read_by s c) true) [] (λ v f. absurd (cc)) no_close-nil)
+no_close-scan s c = grind (arith, no_close-append, no_close-zeros, no_close-first, no_close-nil)
 
 no_close-cell : (j : ℕ) (writes : List RowWrite) → NoClose (writes_in (Cell j) writes)
 no_close-cell j [] = no_close-nil
@@ -59,28 +56,19 @@ no_close-row (w ∷ writes) = no_close-first (Write (S w.bit) w.value) (writes_i
 
 no_close-words : (shape : Shape) (n : ℕ) (items : List ℕ) → NoClose (words_phrase shape n items)
 no_close-words shape n [] = no_close-nil
-no_close-words shape n (item ∷ items) =
-    no_close-append (word_write (width_of shape) (n % capacity_of shape) item) (words_phrase shape (suc n) items)
-    (no_close-cell (n % capacity_of shape) (digit_writes item (width_of shape))) (no_close-words shape (suc n) items)
+no_close-words shape n (item ∷ items) = search (arith, no_close-append, no_close-cell, no_close-words shape (suc n) items)
 
 no_close-put : (shape : Shape) (c : Count) (x : Put) → NoClose (put_phrase shape c x)
-no_close-put shape c (Stored seen items) =
-    let scan : List Made = scan_phrase (row_read_by P) seen in
-    let words : List Made = words_phrase shape c.number items in
-    no_close-append (scan ++ words) (batch_phrase shape P c items)
-    (no_close-append scan words (no_close-scan P seen) (no_close-words shape c.number items)) (no_close-row _)
+no_close-put shape c (Stored seen items) = search (arith, no_close-append, no_close-scan, no_close-words, no_close-row)
 no_close-put shape c (Full seen) = no_close-scan P seen
 
 pub no_close-puts : (shape : Shape) (c : Count) (puts : List Put) → NoClose (put_phrases shape c puts)
 no_close-puts shape c [] = no_close-nil
-no_close-puts shape c (x ∷ puts) =
-    no_close-append (put_phrase shape c x) (put_phrases shape (stored_after shape c x) puts) (no_close-put shape c x) (no_close-puts shape (stored_after shape c x) puts)
+no_close-puts shape c (x ∷ puts) = grind (arith, no_close-append, no_close-put, no_close-puts shape (stored_after shape c x) puts)
 
 -- after a list without one, the only access may be the write
 pub only_close : (xs : List Made) → NoClose xs → (closes : Bool) (n : ℕ) (x : Made) (v : Bool) → slice_get (xs ++ close_phrase closes) n ≡ Some x → access_of x ≡ begins.Write X v → (n ≡ length xs) × (v ≡ true) × (closes ≡ true)
-only_close [] none false n x v e f = absurd (cc)
-only_close [] none true zero x v e f = let same : Write X true ≡ x = cc in (refl, (let g : begins.Write X true ≡ begins.Write X v = ap access_of same ∙ f in cc), refl)
-only_close [] none true (suc n) x v e f = absurd (cc)
+only_close [] none closes n x v e f = grind arith
 only_close (y ∷ xs) none closes zero x v e f = absurd (none zero x v e f)
 only_close (y ∷ xs) none closes (suc n) x v e f =
     let (at_end, is_true, closed) = only_close xs (λ m. none (suc m)) closes n x v e f in
@@ -102,9 +90,6 @@ module _ (shape : Shape) (h : List Event) (lawful : IsLawful shape h) (puts : Li
 
   producer_clock : Clock (clock P h)
   producer_clock = clock_p (clock P h) (clock C h) (clocks_of h)
-
-  consumer_clock : Clock (clock C h)
-  consumer_clock = clock_c (clock P h) (clock C h) (clocks_of h)
 
   -- each write of the close bit is the close, which begins after all puts
   close_is : (v : Bool) (start stop : ℕ) → IsWrite h X v start stop → (v ≡ true) × IsPlaceOf P h (2 * length front) start
@@ -142,20 +127,10 @@ module _ (shape : Shape) (h : List Event) (lawful : IsLawful shape h) (puts : Li
   -- a write of the bit and the end of a read are at two places
   apart : (v : Bool) (answer : Bool) (start stop last : ℕ) → IsWrite h X v start stop → slice_get h last ≡ Some (record { side = C; bit = X; act = ReadEnd answer }) → (start ≡ last) → ⊥
   apart v answer start stop last w ends e =
-      let same : Some w.event ≡ Some (record { side = C; bit = X; act = ReadEnd answer }) = sym w.at_start ∙ ap (slice_get h) e ∙ ends in
-      let events : w.event ≡ record { side = C; bit = X; act = ReadEnd answer } = cc in
-      let sides : P ≡ C = sym w.by_side ∙ ap (λ (x : Event). x.side) events in
-      absurd (cc)
+      grind arith
 
   begun_before_end : (v answer : Bool) (start stop last : ℕ) → IsWrite h X v start stop → slice_get h last ≡ Some (record { side = C; bit = X; act = ReadEnd answer }) → (last < start → ⊥) → start < last
-  begun_before_end v answer start stop last w ends l =
-      elim (at_most_or_above last start) [
-        | inl m ↦ absurd (apart v answer start stop last w ends (same_place m l))
-        | inr m ↦ m
-      ]
-    where
-      same_place : last ≤ start → (last < start → ⊥) → start ≡ last
-      same_place m n = grind arith
+  begun_before_end v answer start stop last w ends l = grind (arith, at_most_or_above, apart)
 
   after_start : (v : Bool) (start stop : ℕ) → IsWrite h X v start stop → start < stop
   after_start v start stop w = omega (arith, w.ends)

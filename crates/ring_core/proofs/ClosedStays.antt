@@ -1,27 +1,23 @@
 -- Once a take has returned Closed, the lists of every longer history are the same.
-use Rattle.std.proofs.Common.{◌≡◌, ℕ, ◌≤◌, List, ◌++◌, length, take, sym, ap, subst, ◌∙◌, arith, append_assoc, length-append}
+use Rattle.ring_core.proofs.Readings.ItemsRead.{items-are_read}
+use Rattle.ring_core.specs.Puts.{FollowsPuts}
+use Rattle.ring_core.specs.Counts.{first_count}
+use Rattle.std.proofs.Common.{◌≡◌, ℕ, ◌≤◌, List, length, take, sym, ap, subst, ◌∙◌, arith, append_assoc, length-append}
 use Rattle.std.proofs.Math.Seq.{take-append_seam, take-length}
 use Rattle.std.proofs.lemmas.List.Elements.{filter-append}
 use Rattle.bits_core.specs.declared.events.Side.{Side}
-use Rattle.bits_core.specs.declared.events.Side.TheVariants.{P, C}
+use Rattle.bits_core.specs.declared.events.Side.TheVariants.{C, P}
 use Rattle.bits_core.specs.declared.events.Event.{Event}
-use Rattle.bits_core.specs.Bits.{is_by}
 use Rattle.bits_core.specs.Made.{subhistory, clock, IsPrefix}
-use Rattle.ring_core.specs.Counts.{first_count}
-use Rattle.ring_core.specs.Puts.{FollowsPuts}
 use Rattle.ring_core.specs.Takes.{FollowsTakes}
-use Rattle.ring_core.specs.Items.{items_put, items_taken, items_put_in, IsTold}
+use Rattle.ring_core.specs.Items.{IsTold, items_put, items_taken, items_put_in}
 use Rattle.ring_core.specs.RingLaw.{RingLaw, InEveryRun}
 use Rattle.ring_core.specs.RunLaws.{ClosedStays}
-use Rattle.ring_core.proofs.Readings.ItemsRead.{items-are_read}
-use Rattle.ring_core.proofs.Readings.TakenRead.{taken-are_read}
+use Rattle.ring_core.proofs.Readings.Over.{taken-are_read}
 
 -- a side's own events in a prefix are a prefix of those in the whole
 own_begins : (s : Side) (h h' : List Event) (program : List Event) → IsPrefix h h' → IsPrefix (subhistory s h') program → IsPrefix (subhistory s h) program
-own_begins s h h' program (later, e) (rest, f) = (
-  subhistory s later ++ rest,
-  sym (append_assoc (subhistory s h) (subhistory s later) rest) ∙ ap (λ l. l ++ rest) (sym (filter-append (is_by s) h later) ∙ ap (subhistory s) e) ∙ f,
-)
+own_begins s h h' program (later, e) (rest, f) = grind (arith, append_assoc, filter-append)
 
 -- the clock of the whole history at the end of a prefix
 clock_there : (s : Side) (h h' : List Event) → IsPrefix h h' → clock s h' (length h) ≡ length (subhistory s h)

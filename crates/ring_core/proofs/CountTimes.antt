@@ -1,6 +1,5 @@
 -- How many count writes of a side have begun and ended after a number of its events, by its accesses and by its spans.
-use Rattle.std.proofs.Common.{◌≡◌, inl, inr, ℕ, zero, suc, ◌+◌, ◌-◌, ◌*◌, ◌%◌, ◌<◌, ◌≤◌, Bool, true, false, cond, nat_lt, nat_le, if◌then◌else◌, Option, Some, None, List, [], ◌∷◌, ◌++◌, length, take, refl, sym, ap, ap₂, ◌∙◌, arith}
-use Rattle.std.specs.List.{cons_option}
+use Rattle.std.proofs.Common.{◌≡◌, ℕ, zero, suc, ◌+◌, ◌-◌, ◌*◌, ◌%◌, ◌<◌, ◌≤◌, Bool, true, false, nat_lt, nat_le, if◌then◌else◌, Some, None, List, [], ◌∷◌, ◌++◌, length, take, refl, ap, arith}
 use Rattle.std.proofs.lemmas.Bool.Decides.{nat_tests}
 use Rattle.std.proofs.lemmas.List.{length-map}
 use Rattle.std.proofs.lemmas.List.Elements.{filter_map-append}
@@ -8,16 +7,16 @@ use Rattle.std.proofs.Math.Nat.{zero-mod}
 use Rattle.bits_core.specs.declared.events.Side.{Side}
 use Rattle.bits_core.specs.declared.events.Side.TheVariants.{P, C}
 use Rattle.bits_core.specs.declared.events.Bit.{Bit}
-use Rattle.bits_core.specs.declared.events.Bit.TheVariants.{X, Cell}
+use Rattle.bits_core.specs.declared.events.Bit.TheVariants.{Cell}
 use Rattle.bits_core.specs.declared.events.Event.{Event}
 use Rattle.bits_core.specs.declared.shapes.Shape.{Shape}
-use Rattle.bits_core.specs.Shape.{capacity_of, modulus_of, width_of}
+use Rattle.bits_core.specs.Shape.{modulus_of}
 use Rattle.bits_core.specs.Made.{Made, Read, Write, begin_event, end_event, events_of}
 use Rattle.register_core.specs.Row.{RowWrite, row_bit, writes_in}
-use Rattle.register_core.specs.Unary.{UnaryWrite, unary_writes, row_writes, writes_of, has_write, having_writes, numbered_of, numbered_value}
+use Rattle.register_core.specs.Unary.{UnaryWrite, unary_writes, row_writes, writes_of, having_writes, numbered_of, numbered_value}
 use Rattle.register_core.specs.Unary as unary
 use Rattle.register_core.specs.UnaryLaw.{number_in_count, count_write, count_begun}
-use Rattle.register_core.specs.Word.{digit, digit_writes, digit_reads}
+use Rattle.register_core.specs.Word.{digit_reads}
 use Rattle.register_core.specs.ScanState.{zero_reads, scan_phrase, row_read_by}
 use Rattle.ring_core.specs.Counts.{number_past, Count, first_count, count_bits, batch_phrase, IsCount}
 use Rattle.ring_core.specs.Puts.{words_phrase, close_phrase}
@@ -28,7 +27,7 @@ use Rattle.ring_core.proofs.CountRow.{past_is, first_is_count, bits_long}
 use Rattle.ring_core.proofs.Machines.Following.{events_of-append, length-events}
 use Rattle.ring_core.proofs.OverSpans.Timeline.{AllProper, ended_zero}
 use Rattle.ring_core.proofs.OverSpans.Looks.{Passing, AllPassing, look_is_count, all_proper}
-use Rattle.register_core.proofs.RowWrites.{row_write-got as got_none, row_write-read as read_none, row_write-wrote as wrote_none}
+use Rattle.register_core.proofs.RowWrites.{row_write-read as read_none}
 
 -- ---- the bit writes of a count among events
 
@@ -37,42 +36,25 @@ abbrev pub bit_writes : Side → List Event → ℕ → ℕ
 bit_writes s events i = length (count_begun s (take i events))
 
 none_taken : (s : Side) (i : ℕ) → bit_writes s [] i ≡ 0
-none_taken s zero = refl
-none_taken s (suc i) = refl
+none_taken s i = grind arith
 
 -- those of two lists of events, one after the other
 bits-append : (s : Side) (xs ys : List Event) (i : ℕ) → bit_writes s (xs ++ ys) i ≡ bit_writes s xs i + bit_writes s ys (i - length xs)
-bits-append s [] ys i =
-    let z : i - 0 ≡ i = omega arith in
-    rw z (omega (arith, none_taken s i))
-bits-append s (x ∷ xs) ys zero =
-    let z : 0 - suc (length xs) ≡ 0 = omega arith in
-    let y : bit_writes s ys (0 - suc (length xs)) ≡ 0 = ap (bit_writes s ys) z in
-    omega (arith, y)
-bits-append s (x ∷ xs) ys (suc i) =
-    let z : suc i - suc (length xs) ≡ i - length xs = omega arith in
-    rw z (one (count_write s x) (bits-append s xs ys i))
-  where
-    one :
-        (o : Option RowWrite) → bit_writes s (xs ++ ys) i ≡ bit_writes s xs i + bit_writes s ys (i - length xs) →
-        length (cons_option o (count_begun s (take i (xs ++ ys)))) ≡ length (cons_option o (count_begun s (take i xs))) + bit_writes s ys (i - length xs)
-    one None e = e
-    one (Some w) e = omega (arith, e)
+bits-append s [] ys i = grind (arith, none_taken)
+bits-append s (x ∷ xs) ys zero = grind arith
+bits-append s (x ∷ xs) ys (suc i) = grind (arith, bits-append s xs ys i)
 
 -- and the same for accesses, one after the other
 made-append :
     (s : Side) (xs ys : List Made) (i : ℕ) →
     bit_writes s (events_of s (xs ++ ys)) i ≡ bit_writes s (events_of s xs) i + bit_writes s (events_of s ys) (i - 2 * length xs)
-made-append s xs ys i =
-    ap (λ l. bit_writes s l i) (events_of-append s xs ys) ∙ bits-append s (events_of s xs) (events_of s ys) i ∙
-    ap (λ k. bit_writes s (events_of s xs) i + bit_writes s (events_of s ys) (i - k)) (length-events s xs)
+made-append s xs ys i = grind (arith, events_of-append, bits-append, length-events)
 
 -- ---- accesses without writes of the count
 
 -- the end of an access begins no write
 end_none : (s : Side) (x : Made) → count_write s (end_event s x) ≡ None
-end_none s (Read b v) = got_none (number_in_count s b) v
-end_none s (Write b v) = wrote_none (number_in_count s b)
+end_none s x = grind arith
 
 -- none of the accesses is a write of the side's count
 abbrev pub IsQuiet : Side → List Made → Type 0
@@ -99,31 +81,22 @@ quiet_cells cell (w ∷ writes) = (refl, quiet_cells cell writes)
 
 quiet_digits : (s : Side) (cell item n : ℕ) → IsQuiet s (digit_reads cell item n)
 quiet_digits s cell item zero = tt
-quiet_digits s cell item (suc n) =
-    quiet-append s (digit_reads cell item n) (Read (Cell cell n) (digit n item) ∷ []) (quiet_digits s cell item n) (quiet_read s (Cell cell n) (digit n item))
+quiet_digits s cell item (suc n) = grind (arith, quiet-append, quiet_read, quiet_digits s cell item n)
 
 quiet_words : (shape : Shape) (n : ℕ) (items : List ℕ) → IsQuiet P (words_phrase shape n items)
 quiet_words shape n [] = tt
-quiet_words shape n (item ∷ items) =
-    quiet-append P _ (words_phrase shape (suc n) items) (quiet_cells (n % capacity_of shape) (digit_writes item (width_of shape))) (quiet_words shape (suc n) items)
+quiet_words shape n (item ∷ items) = grind (arith, quiet-append, quiet_cells, quiet_words shape (suc n) items)
 
 quiet_words_read : (shape : Shape) (n : ℕ) (items : List ℕ) → IsQuiet C (words_read shape n items)
 quiet_words_read shape n [] = tt
-quiet_words_read shape n (item ∷ items) =
-    quiet-append C _ (words_read shape (suc n) items) (quiet_digits C (n % capacity_of shape) item (width_of shape)) (quiet_words_read shape (suc n) items)
+quiet_words_read shape n (item ∷ items) = search (arith, quiet-append, quiet_digits, quiet_words_read shape (suc n) items)
 
 quiet_word : (s : Side) (shape : Shape) (n : ℕ) (o : Outcome) → IsQuiet s (word_part s shape n o)
-quiet_word P shape n (Passes items) = quiet_words shape n items
-quiet_word C shape n (Passes items) = quiet_words_read shape n items
-quiet_word P shape n Stops = tt
-quiet_word C shape n Stops = tt
-quiet_word P shape n (Asks answer) = quiet_read P X answer
-quiet_word C shape n (Asks answer) = quiet_read C X answer
+quiet_word s shape n o = grind (arith, quiet_words, quiet_words_read, quiet_read)
 
 -- a close is not a write of the producer's count
 pub quiet_close : (closes : Bool) → IsQuiet P (close_phrase closes)
-quiet_close true = (refl, tt)
-quiet_close false = tt
+quiet_close closes = grind arith
 
 -- such accesses begin no bit write
 quiet_begun : (s : Side) (xs : List Made) (i : ℕ) → IsQuiet s xs → bit_writes s (events_of s xs) i ≡ 0
@@ -140,18 +113,13 @@ quiet_all s (x ∷ xs) q = rw (q.0, end_none s x) (quiet_all s xs q.1)
 past_quiet :
     (s : Side) (a b d : List Made) (i : ℕ) → IsQuiet s a → IsQuiet s b →
     bit_writes s (events_of s (a ++ (b ++ d))) i ≡ bit_writes s (events_of s d) (i - (2 * length a + 2 * length b))
-past_quiet s a b d i p q =
-    let less : i - 2 * length a - 2 * length b ≡ i - (2 * length a + 2 * length b) = omega arith in
-    let deep : bit_writes s (events_of s d) (i - 2 * length a - 2 * length b) ≡ bit_writes s (events_of s d) (i - (2 * length a + 2 * length b)) =
-    ap (bit_writes s (events_of s d)) less in
-    omega (arith, made-append s a (b ++ d) i, made-append s b d (i - 2 * length a), quiet_begun s a i p, quiet_begun s b (i - 2 * length a) q, deep)
+past_quiet s a b d i p q = grind (arith, made-append, quiet_begun)
 
 -- ---- the accesses of a count write
 
 -- each begins its bit write
 row_begun : (s : Side) (w : RowWrite) → count_write s (begin_event s (Write (row_bit s w.bit) w.value)) ≡ Some w
-row_begun P w = refl
-row_begun C w = refl
+row_begun s w = grind arith
 
 count_all : (s : Side) (ws : List RowWrite) → count_begun s (events_of s (writes_in (row_bit s) ws)) ≡ ws
 count_all s [] = refl
@@ -166,9 +134,7 @@ count_some s [] zero = (omega arith, λ l. refl)
 count_some s [] (suc i) = (omega arith, λ l. refl)
 count_some s (w ∷ ws) zero = (omega arith, λ l. absurd (omega (arith, l)))
 count_some s (w ∷ ws) (suc zero) = rw (row_begun s w) (omega arith, λ l. omega (arith, l))
-count_some s (w ∷ ws) (suc (suc i)) =
-    let r = count_some s ws i in
-    rw (row_begun s w, end_none s (Write (row_bit s w.bit) w.value)) (omega (arith, r.0), λ l. ap suc (r.1 (omega (arith, l))))
+count_some s (w ∷ ws) (suc (suc i)) = search (arith, row_begun, end_none, count_some s ws i)
 
 -- ---- the unary writes of looks
 
@@ -203,29 +169,21 @@ writes_from shape c looks = unary_writes c.bits (values_from shape c.number look
 
 -- a unary write with a bit write is numbered
 kept : (u : UnaryWrite) (ws : List RowWrite) (us : List UnaryWrite) → u.writes ≡ ws → 1 ≤ length ws → having_writes (u ∷ us) ≡ u ∷ having_writes us
-kept u [] us e l = absurd (omega (arith, l))
-kept u (w ∷ ws) us e l = ap (λ v. if has_write v then u ∷ having_writes us else having_writes us) e
+kept u ws us e l = grind arith
 
 -- so all are
 numbered_part :
     (most : ℕ) (shape : Shape) (c : Count) (o : Outcome) (vs : List ℕ) → most < modulus_of shape → IsCount shape c → Passing most o →
     having_writes (unary_writes (look_bits shape c o) vs) ≡ unary_writes (look_bits shape c o) vs →
     having_writes (unary_writes c.bits (value_of shape c.number o ++ vs)) ≡ unary_writes c.bits (value_of shape c.number o ++ vs)
-numbered_part most shape c (Passes items) vs fits is (some, few) e =
-    let ws : List RowWrite = count_bits shape c items in
-    let u : UnaryWrite = record { value = number_past c.number items % modulus_of shape; writes = ws } in
-    let us : List UnaryWrite = unary_writes (look_bits shape c (Passes items)) vs in
-    kept u ws us refl (bits_long shape c items is some (omega (arith, few, fits))) ∙ ap (λ us. u ∷ us) e
-numbered_part most shape c Stops vs fits is p e = e
-numbered_part most shape c (Asks answer) vs fits is p e = e
+numbered_part most shape c o vs fits is p e = grind (arith, kept, bits_long)
 
 all_numbered :
     (most : ℕ) (shape : Shape) (c : Count) (looks : List Look) → most < modulus_of shape → IsCount shape c → AllPassing most looks →
     having_writes (writes_from shape c looks) ≡ writes_from shape c looks
 all_numbered most shape c [] fits is p = refl
 all_numbered most shape c (l ∷ looks) fits is p =
-    numbered_part most shape c l.outcome (values_from shape (look_number c.number l.outcome) looks) fits is p.0
-    (all_numbered most shape (after_look shape c l.outcome) looks fits (look_is_count shape c l.outcome is) p.1)
+    grind (arith, numbered_part, look_is_count, all_numbered most shape (after_look shape c l.outcome) looks fits (look_is_count shape c l.outcome is) p.1)
 
 -- the values of the unary writes of a program's count
 abbrev pub counted_in : Shape → List Look → List ℕ
@@ -238,29 +196,19 @@ numbered_is most shape looks fits p = all_numbered most shape first_count looks 
 
 -- the value of unary write number u is the number counted by the writes up to it, modulo the modulus
 value_none : (v : ℕ) (u : ℕ) → numbered_value v [] u ≡ v
-value_none v zero = refl
-value_none v (suc u) = refl
+value_none v u = grind arith
 
 value_part :
     (shape : Shape) (c : Count) (o : Outcome) (ms vs : List ℕ) →
     ((u : ℕ) → numbered_value (look_number c.number o % modulus_of shape) (unary_writes (look_bits shape c o) vs) u ≡ (look_number c.number o + tally ms u) % modulus_of shape) →
     (u : ℕ) →
     numbered_value (c.number % modulus_of shape) (unary_writes c.bits (value_of shape c.number o ++ vs)) u ≡ (c.number + tally (size_of o ++ ms) u) % modulus_of shape
-value_part shape c (Passes items) ms vs rest zero =
-    let same : c.number ≡ c.number + 0 = omega arith in
-    ap (λ k. k % modulus_of shape) same
-value_part shape c (Passes items) ms vs rest (suc u) =
-    let same : number_past c.number items + tally ms u ≡ c.number + (length items + tally ms u) = omega (arith, past_is c.number items) in
-    rest u ∙ ap (λ k. k % modulus_of shape) same
-value_part shape c Stops ms vs rest u = rest u
-value_part shape c (Asks answer) ms vs rest u = rest u
+value_part shape c o ms vs rest u = grind (arith, past_is)
 
 value_from :
     (shape : Shape) (c : Count) (looks : List Look) (u : ℕ) →
     numbered_value (c.number % modulus_of shape) (writes_from shape c looks) u ≡ (c.number + tally (sizes_in looks) u) % modulus_of shape
-value_from shape c [] u =
-    let same : c.number ≡ c.number + 0 = omega arith in
-    value_none (c.number % modulus_of shape) u ∙ ap (λ k. k % modulus_of shape) same
+value_from shape c [] u = grind (arith, value_none)
 value_from shape c (l ∷ looks) u =
     value_part shape c l.outcome (sizes_in looks) (values_from shape (look_number c.number l.outcome) looks)
     (λ v. value_from shape (after_look shape c l.outcome) looks v) u
@@ -268,10 +216,7 @@ value_from shape c (l ∷ looks) u =
 pub counted_value :
     (most : ℕ) (shape : Shape) (looks : List Look) (u : ℕ) → most < modulus_of shape → AllPassing most looks →
     numbered_value 0 (numbered_of (counted_in shape looks)) u ≡ tally (sizes_in looks) u % modulus_of shape
-counted_value most shape looks u fits p =
-    let same : 0 + tally (sizes_in looks) u ≡ tally (sizes_in looks) u = omega arith in
-    ap (λ us. numbered_value 0 us u) (numbered_is most shape looks fits p) ∙ ap (λ v. numbered_value v (writes_from shape first_count looks) u) (sym (zero-mod (modulus_of shape))) ∙
-    value_from shape first_count looks u ∙ ap (λ m. m % modulus_of shape) same
+counted_value most shape looks u fits p = grind (arith, numbered_is most shape looks fits p, zero-mod (modulus_of shape), value_from shape first_count looks u)
 
 -- ---- the count writes of looks
 
@@ -287,25 +232,11 @@ record CountThen (s : Side) (shape : Shape) (c : Count) (items : List ℕ) (afte
 
 -- the rest, without those of the count write
 tail_is : (t a b n i : ℕ) → t ≡ a + b → a ≤ n → (2 * n ≤ suc i → a ≡ n) → (suc i < 2 * n → b ≡ 0) → t - n ≡ b
-tail_is t a b n i e most all none = elim (at_most_or_above (2 * n) (suc i)) [
-  | inl l ↦ omega (arith, e, all l)
-  | inr l ↦ omega (arith, e, most, none l)
-]
+tail_is t a b n i e most all none = grind (arith, at_most_or_above)
 
 count_then : (s : Side) (shape : Shape) (c : Count) (items : List ℕ) (after : List Made) (i : ℕ) → CountThen s shape c items after i
 count_then s shape c items after i =
-    let ws : List RowWrite = count_bits shape c items in
-    let d : List Made = batch_phrase shape s c items in
-    let size : length d ≡ length ws = length-map ws (λ w. Write (row_bit s w.bit) w.value) in
-    let r = count_some s ws i in
-    let parts = made-append s d after i in
-    let none : suc i < 2 * length ws → bit_writes s (events_of s after) (i - 2 * length d) ≡ 0 =
-    λ l. (let z : i - 2 * length d ≡ 0 = omega (arith, size, l) in ap (bit_writes s (events_of s after)) z) in
-    record {
-      tail = tail_is _ (bit_writes s (events_of s d) i) (bit_writes s (events_of s after) (i - 2 * length d)) (length ws) i parts r.0 r.1 none;
-      full = λ l. omega (arith, parts, r.1 (omega (arith, size, l)));
-      size = size;
-    }
+    grind (arith, length-map, tail_is, count_some s (count_bits shape c items) i, made-append s (batch_phrase shape s c items) after i)
 
 lt_so : (a b m : ℕ) → a < b → ◌≡◌ {A = ℕ} (if nat_lt a b then m else 0) m
 lt_so a b m l = grind (arith, nat_tests)
@@ -317,21 +248,16 @@ le_none : (a b m : ℕ) → b < a → ◌≡◌ {A = ℕ} (if nat_le a b then m 
 le_none a b m l = grind (arith, nat_tests)
 
 no_one : (t : Bool) → ◌≡◌ {A = ℕ} (if t then 0 else 0) 0
-no_one true = refl
-no_one false = refl
+no_one t = grind arith
 
 ended_more : (u : UnaryWrite) (us : List UnaryWrite) (t : ℕ) → length u.writes ≤ t → unary.ended (u ∷ us) t ≡ suc (unary.ended us (t - length u.writes))
-ended_more u us t l = go (length u.writes) (unary.ended us (t - length u.writes)) l
-  where
-    go : (n e : ℕ) → n ≤ t → cond (nat_le n t) (suc e) 0 ≡ suc e
-    go n e l = grind (arith, nat_tests)
+ended_more u us t l = grind (arith, nat_tests)
 
 -- what the first writes count, if the first one counts m
 tally_begun :
     (m : ℕ) (ms : List ℕ) (u : UnaryWrite) (us : List UnaryWrite) (t : ℕ) →
     tally (m ∷ ms) (unary.begun_writes (u ∷ us) t) ≤ m + tally ms (unary.begun_writes us (t - length u.writes))
-tally_begun m ms u us zero = omega arith
-tally_begun m ms u us (suc t) = omega arith
+tally_begun m ms u us t = grind arith
 
 -- one look: its count write and what follows, after a number of events
 begun_step :
@@ -340,40 +266,9 @@ begun_step :
     tally (size_of o ++ ms)
     (unary.begun_writes (unary_writes c.bits (value_of shape c.number o ++ vs)) (bit_writes s (events_of s (count_part s shape c o ++ after)) (i - place))) ≤
     (if nat_lt place i then counts o else 0) + counts_begun xs (i - (place + 2 * length (count_part s shape c o)))
-begun_step s shape c (Passes items) ms vs after xs place rest i =
-    let ws : List RowWrite = count_bits shape c items in
-    let m : ℕ = length items in
-    let us : List UnaryWrite = unary_writes (look_bits shape c (Passes items)) vs in
-    let u : UnaryWrite = record { value = number_past c.number items % modulus_of shape; writes = ws } in
-    let d : List Made = batch_phrase shape s c items in
-    let t : ℕ = bit_writes s (events_of s (d ++ after)) (i - place) in
-    elim (at_most_or_above i place) [
-      | inl l ↦ (
-          let none : i - place ≡ 0 = omega (arith, l) in
-          let zero_is : t ≡ 0 = ap (bit_writes s (events_of s (d ++ after))) none in
-          let none_begun : tally (m ∷ ms) (unary.begun_writes (u ∷ us) t) ≡ 0 = ap (λ t. tally (m ∷ ms) (unary.begun_writes (u ∷ us) t)) zero_is in
-          omega (arith, none_begun))
-      | inr l ↦ (
-          let next = count_then s shape c items after (i - place) in
-          let less : i - place - 2 * length d ≡ i - (place + 2 * length d) = omega arith in
-          let tail : t - length ws ≡ bit_writes s (events_of s after) (i - (place + 2 * length d)) = next.tail ∙ ap (bit_writes s (events_of s after)) less in
-          let number_past : ℕ = i - (place + 2 * length d) in
-          let same : tally ms (unary.begun_writes us (t - length ws)) ≡ tally ms (unary.begun_writes us (bit_writes s (events_of s after) number_past)) =
-          ap (λ t. tally ms (unary.begun_writes us t)) tail in
-          omega (arith, tally_begun m ms u us t, same, rest number_past, lt_so place i m l))
-    ]
-begun_step s shape c Stops ms vs after xs place rest i =
-    let same : i - place ≡ i - (place + 0) = omega arith in
-    let here : tally ms (unary.begun_writes (unary_writes c.bits vs) (bit_writes s (events_of s after) (i - place))) ≡
-    tally ms (unary.begun_writes (unary_writes c.bits vs) (bit_writes s (events_of s after) (i - (place + 0)))) =
-    ap (λ j. tally ms (unary.begun_writes (unary_writes c.bits vs) (bit_writes s (events_of s after) j))) same in
-    omega (arith, here, rest (i - (place + 0)))
-begun_step s shape c (Asks answer) ms vs after xs place rest i =
-    let same : i - place ≡ i - (place + 0) = omega arith in
-    let here : tally ms (unary.begun_writes (unary_writes c.bits vs) (bit_writes s (events_of s after) (i - place))) ≡
-    tally ms (unary.begun_writes (unary_writes c.bits vs) (bit_writes s (events_of s after) (i - (place + 0)))) =
-    ap (λ j. tally ms (unary.begun_writes (unary_writes c.bits vs) (bit_writes s (events_of s after) j))) same in
-    omega (arith, here, rest (i - (place + 0)))
+begun_step s shape c (Passes items) ms vs after xs place rest i = grind (arith, at_most_or_above, count_then, tally_begun, lt_so)
+begun_step s shape c Stops ms vs after xs place rest i = grind arith
+begun_step s shape c (Asks answer) ms vs after xs place rest i = grind arith
 
 begun_from_look :
     (s : Side) (shape : Shape) (c : Count) (looks : List Look) (behind : List Made) (i : ℕ) →
@@ -398,40 +293,9 @@ ended_step :
     tally (size_of o ++ ms)
     (unary.ended (unary_writes c.bits (value_of shape c.number o ++ vs)) (bit_writes s (events_of s (count_part s shape c o ++ after)) (i - 1 - place)))
 ended_step most s shape c (Passes items) ms vs after xs place proper rest i =
-    let ws : List RowWrite = count_bits shape c items in
-    let m : ℕ = length items in
-    let us : List UnaryWrite = unary_writes (look_bits shape c (Passes items)) vs in
-    let u : UnaryWrite = record { value = number_past c.number items % modulus_of shape; writes = ws } in
-    let d : List Made = batch_phrase shape s c items in
-    let t : ℕ = bit_writes s (events_of s (d ++ after)) (i - 1 - place) in
-    let number_past : ℕ = i - (place + 2 * length d) in
-    elim (at_most_or_above (place + 2 * length d) i) [
-      | inl l ↦ (
-          let next = count_then s shape c items after (i - 1 - place) in
-          let less : i - 1 - place - 2 * length d ≡ number_past - 1 = omega arith in
-          let tail : t - length ws ≡ bit_writes s (events_of s after) (number_past - 1) = next.tail ∙ ap (bit_writes s (events_of s after)) less in
-          let same : tally ms (unary.ended us (t - length ws)) ≡ tally ms (unary.ended us (bit_writes s (events_of s after) (number_past - 1))) =
-          ap (λ t. tally ms (unary.ended us t)) tail in
-          let more : tally (m ∷ ms) (unary.ended (u ∷ us) t) ≡ m + tally ms (unary.ended us (t - length ws)) =
-          ap (tally (m ∷ ms)) (ended_more u us t (next.full (omega (arith, l)))) in
-          omega (arith, more, same, rest number_past, le_so (place + 2 * length d) i m l))
-      | inr l ↦ (
-          let none : number_past ≡ 0 = omega (arith, l) in
-          let none_ended : counts_ended xs number_past ≡ 0 = ap (counts_ended xs) none ∙ ended_zero most xs proper in
-          omega (arith, none_ended, le_none (place + 2 * length d) i m l))
-    ]
-ended_step most s shape c Stops ms vs after xs place proper rest i =
-    let same : i - (place + 0) - 1 ≡ i - 1 - place = omega arith in
-    let here : tally ms (unary.ended (unary_writes c.bits vs) (bit_writes s (events_of s after) (i - (place + 0) - 1))) ≡
-    tally ms (unary.ended (unary_writes c.bits vs) (bit_writes s (events_of s after) (i - 1 - place))) =
-    ap (λ j. tally ms (unary.ended (unary_writes c.bits vs) (bit_writes s (events_of s after) j))) same in
-    omega (arith, here, rest (i - (place + 0)), no_one (nat_le (place + 0) i))
-ended_step most s shape c (Asks answer) ms vs after xs place proper rest i =
-    let same : i - (place + 0) - 1 ≡ i - 1 - place = omega arith in
-    let here : tally ms (unary.ended (unary_writes c.bits vs) (bit_writes s (events_of s after) (i - (place + 0) - 1))) ≡
-    tally ms (unary.ended (unary_writes c.bits vs) (bit_writes s (events_of s after) (i - 1 - place))) =
-    ap (λ j. tally ms (unary.ended (unary_writes c.bits vs) (bit_writes s (events_of s after) j))) same in
-    omega (arith, here, rest (i - (place + 0)), no_one (nat_le (place + 0) i))
+    grind (arith, at_most_or_above, count_then, ended_more, le_so, ended_zero, le_none)
+ended_step most s shape c Stops ms vs after xs place proper rest i = grind (arith, no_one)
+ended_step most s shape c (Asks answer) ms vs after xs place proper rest i = grind (arith, no_one)
 
 ended_from_look :
     (most : ℕ) (s : Side) (shape : Shape) (c : Count) (looks : List Look) (behind : List Made) → most < modulus_of shape → IsCount shape c → AllPassing most looks → (i : ℕ) →
@@ -472,37 +336,26 @@ part_writes :
     (s : Side) (shape : Shape) (c : Count) (o : Outcome) (vs : List ℕ) (after : List Made) →
     count_begun s (events_of s after) ≡ row_writes (unary_writes (look_bits shape c o) vs) →
     count_begun s (events_of s (count_part s shape c o ++ after)) ≡ row_writes (unary_writes c.bits (value_of shape c.number o ++ vs))
-part_writes s shape c (Passes items) vs after e =
-    let ws : List RowWrite = count_bits shape c items in
-    let d : List Made = batch_phrase shape s c items in
-    ap (count_begun s) (events_of-append s d after) ∙ filter_map-append (count_write s) (events_of s d) (events_of s after) ∙
-    ap₂ (λ (us vs : List RowWrite). us ++ vs) (count_all s ws) e
+part_writes s shape c (Passes items) vs after e = grind (arith, events_of-append, filter_map-append, count_all)
 part_writes s shape c Stops vs after e = e
 part_writes s shape c (Asks answer) vs after e = e
 
 past_part :
     (s : Side) (a after : List Made) → IsQuiet s a → count_begun s (events_of s (a ++ after)) ≡ count_begun s (events_of s after)
-past_part s a after q =
-    ap (count_begun s) (events_of-append s a after) ∙ filter_map-append (count_write s) (events_of s a) (events_of s after) ∙
-    ap (λ l. l ++ count_begun s (events_of s after)) (quiet_all s a q)
+past_part s a after q = grind (arith, events_of-append, filter_map-append, quiet_all)
 
 -- the bit writes of a look's count write and of what follows it
 look_writes :
     (s : Side) (shape : Shape) (c : Count) (l : Look) (after : List Made) →
     count_begun s (events_of s (scan_phrase (row_read_by s) l.seen ++ (word_part s shape c.number l.outcome ++ (count_part s shape c l.outcome ++ after)))) ≡
     count_begun s (events_of s (count_part s shape c l.outcome ++ after))
-look_writes s shape c l after =
-    past_part s (scan_phrase (row_read_by s) l.seen) (word_part s shape c.number l.outcome ++ (count_part s shape c l.outcome ++ after)) (quiet_scan s (row_read_by s) l.seen) ∙
-    past_part s (word_part s shape c.number l.outcome) (count_part s shape c l.outcome ++ after) (quiet_word s shape c.number l.outcome)
+look_writes s shape c l after = search (arith, past_part, quiet_scan, quiet_word)
 
 program_writes :
     (s : Side) (shape : Shape) (c : Count) (looks : List Look) (behind : List Made) → IsQuiet s behind →
     count_begun s (events_of s (look_accesses s shape c looks behind)) ≡ row_writes (writes_from shape c looks)
 program_writes s shape c [] behind q = quiet_all s behind q
-program_writes s shape c (l ∷ looks) behind q =
-    let next : Count = after_look shape c l.outcome in
-    let after : List Made = look_accesses s shape next looks behind in
-    look_writes s shape c l after ∙ part_writes s shape c l.outcome (values_from shape next.number looks) after (program_writes s shape next looks behind q)
+program_writes s shape c (l ∷ looks) behind q = grind (arith, look_writes, part_writes, program_writes s shape (after_look shape c l.outcome) looks behind q)
 
 -- the bit writes of a program's count are those of its unary writes
 pub count_writes_are :

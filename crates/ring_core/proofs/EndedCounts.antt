@@ -1,9 +1,9 @@
 -- How many items are counted, call by call.
-use Rattle.std.proofs.Common.{◌≡◌, ℕ, ◌+◌, ◌-◌, Bool, true, false, nat_lt, nat_le, if◌then◌else◌, List, [], ◌∷◌, ◌++◌, length, refl, ◌∙◌, arith, length-append}
+use Rattle.std.proofs.Common.{◌≡◌, ℕ, ◌+◌, ◌-◌, Bool, nat_lt, nat_le, if◌then◌else◌, List, [], ◌∷◌, ◌++◌, length, refl, arith, length-append}
 use Rattle.bits_core.specs.declared.shapes.Shape.{Shape}
 use Rattle.bits_core.specs.Made.{Made}
 use Rattle.ring_core.specs.Counts.{Count, first_count}
-use Rattle.ring_core.specs.Puts.{Put, Stored, Full, Puts, stored_after, put_phrase}
+use Rattle.ring_core.specs.Puts.{Put, Puts, stored_after, put_phrase}
 use Rattle.ring_core.specs.Takes.{Take, Item, ItemAfterClose, Empty, Takes, count_after, words_read, accesses_before_word, take_phrase}
 use Rattle.ring_core.specs.Items.{events_in, gathered, take_begun, all_put}
 use Rattle.ring_core.specs.CallsAt.{stored_by, items_ended, puts_ended, takes_begun}
@@ -37,43 +37,29 @@ abbrev items_begun : Shape → Count → List Take → ℕ → List ℕ
 items_begun shape = gathered (take_begun shape) (take_phrase shape) (count_after shape)
 
 length_if : (b : Bool) (xs ys : List ℕ) (n m : ℕ) → length xs ≡ n → length ys ≡ m → length ((if b then xs else []) ++ ys) ≡ (if b then n else 0) + m
-length_if true xs ys n m e f = omega (arith, length-append xs ys, e, f)
-length_if false xs ys n m e f = omega (arith, f)
+length_if b xs ys n m e f = grind (arith, length-append)
 
 one_put : (x : Put) → length (all_put (x ∷ [])) ≡ stored_by x
-one_put (Stored seen items) = omega (arith, length-append items [])
-one_put (Full seen) = refl
+one_put x = grind (arith, length-append)
 
 ended_are : (shape : Shape) (c : Count) (puts : List Put) (t : ℕ) → length (items_ended shape c puts t) ≡ stored_ended shape c puts t
 ended_are shape c [] t = refl
-ended_are shape c (x ∷ puts) t =
-    let phrase : ℕ = events_in (put_phrase shape c x) in
-    length_if (nat_le phrase t) (all_put (x ∷ [])) (items_ended shape (stored_after shape c x) puts (t - phrase)) (stored_by x) _ (one_put x)
-    (ended_are shape (stored_after shape c x) puts (t - phrase))
+ended_are shape c (x ∷ puts) t = grind (arith, length_if, one_put, ended_are shape (stored_after shape c x) puts (t - (events_in (put_phrase shape c x))))
 
 pub puts_ended_is : (shape : Shape) (calls : Puts) (t : ℕ) → puts_ended shape calls t ≡ stored_ended shape first_count calls.puts t
 puts_ended_is shape calls t = ended_are shape first_count calls.puts t
 
 pub none_or : (b : Bool) (n : ℕ) → n ≡ (if b then 0 else 0) + n
-none_or true n = omega arith
-none_or false n = omega arith
+none_or b n = grind arith
 
 begun_are : (shape : Shape) (c : Count) (takes : List Take) (t : ℕ) → length (items_begun shape c takes t) ≡ taken_begun shape c takes t
 begun_are shape c [] t = refl
 begun_are shape c (Item seen items ∷ takes) t =
-    let x : Take = Item seen items in
-    let next : Count = count_after shape c x in
-    let phrase : ℕ = events_in (take_phrase shape c x) in
-    length_if (nat_lt (events_in (take_before_count shape c x)) t) items (items_begun shape next takes (t - phrase)) (length items) _ refl (begun_are shape next takes (t - phrase))
+    grind (arith, length_if, begun_are shape (count_after shape c (Item seen items)) takes (t - (events_in (take_phrase shape c (Item seen items)))))
 begun_are shape c (ItemAfterClose seen again items ∷ takes) t =
-    let x : Take = ItemAfterClose seen again items in
-    let next : Count = count_after shape c x in
-    let phrase : ℕ = events_in (take_phrase shape c x) in
-    length_if (nat_lt (events_in (take_before_count shape c x)) t) items (items_begun shape next takes (t - phrase)) (length items) _ refl (begun_are shape next takes (t - phrase))
+    grind (arith, length_if, begun_are shape (count_after shape c (ItemAfterClose seen again items)) takes (t - (events_in (take_phrase shape c (ItemAfterClose seen again items)))))
 begun_are shape c (Empty seen ∷ takes) t =
-    let x : Take = Empty seen in
-    let phrase : ℕ = events_in (take_phrase shape c x) in
-    begun_are shape (count_after shape c x) takes (t - phrase) ∙ none_or (nat_lt (events_in (take_before_count shape c x)) t) _
+    grind (arith, none_or, begun_are shape (count_after shape c (Empty seen)) takes (t - (events_in (take_phrase shape c (Empty seen)))))
 
 pub takes_begun_is : (shape : Shape) (calls : Takes) (t : ℕ) → takes_begun shape calls t ≡ taken_begun shape first_count calls.takes t
 takes_begun_is shape calls t = begun_are shape first_count calls.takes t

@@ -113,10 +113,7 @@ second_scan-is = refl
 
 pub second_scan-are : AreTakes one_cell 0 second_scan.takes second_scan.end
 unfolding one_cell
-second_scan-are = (
-  ((omega arith, λ (low, high). omega (arith, low)), (omega arith, omega arith, omega arith), one_fits),
-  ((omega arith, λ (low, high). omega (arith, low)), (omega arith, λ (low, high). omega (arith, low))),
-)
+second_scan-are = grind (arith, one_fits)
 
 -- Closed is returned with the last of its 24 events
 pub second_scan-told : (IsTold one_cell second_scan 23 → ⊥) × IsTold one_cell second_scan 24
@@ -139,8 +136,7 @@ three_at_once-is = refl
 
 three_at_once-are : ArePuts three_cells 0 three_at_once.puts
 unfolding three_cells
-three_at_once-are =
-    ((omega arith, omega arith, record { some = omega arith; few = omega arith; fit = (omega arith, (omega arith, (omega arith, tt))) }), record {})
+three_at_once-are = grind arith
 
 -- all three items are put with the start of the one count write, which is event 8 of the producer
 three_at_once-items :

@@ -1,17 +1,17 @@
 -- A program's reads of the last bit of the other side's count return 1.
-use Rattle.std.proofs.Common.{◌≡◌, ℕ, zero, suc, ◌%◌, ◌<◌, Bool, true, false, List, [], ◌∷◌, ◌++◌, refl, sym, subst, arith, append_assoc}
+use Rattle.std.proofs.Common.{◌≡◌, ℕ, zero, suc, ◌<◌, Bool, true, List, [], ◌∷◌, ◌++◌, refl, subst, arith, append_assoc}
 use Rattle.bits_core.specs.declared.events.Side.{Side}
-use Rattle.bits_core.specs.declared.events.Side.TheVariants.{P, C}
+use Rattle.bits_core.specs.declared.events.Side.TheVariants.{C}
 use Rattle.bits_core.specs.declared.events.Bit.{Bit}
-use Rattle.bits_core.specs.declared.events.Bit.TheVariants.{S, X, Cell}
+use Rattle.bits_core.specs.declared.events.Bit.TheVariants.{S, X}
 use Rattle.bits_core.specs.declared.shapes.Shape.{Shape}
-use Rattle.bits_core.specs.Shape.{capacity_of, modulus_of, width_of}
+use Rattle.bits_core.specs.Shape.{modulus_of}
 use Rattle.bits_core.specs.Made.{Made, Read}
-use Rattle.register_core.specs.Row.{RowWrite, row_bit, writes_in}
-use Rattle.register_core.specs.Word.{digit, digit_reads, word_read}
+use Rattle.register_core.specs.Row.{RowWrite, writes_in}
+use Rattle.register_core.specs.Word.{digit_reads}
 use Rattle.register_core.specs.ScanState.{zero_reads, scan_phrase, row_read_by}
 use Rattle.ring_core.specs.Takes.{Take, End, Item, ItemAfterClose, Empty, Open, Closed, count_after, words_read, items_phrase, take_phrase, take_phrases, end_phrase, IsTake, AreTakes}
-use Rattle.ring_core.specs.Counts.{Count, first_count, count_bits, batch_phrase}
+use Rattle.ring_core.specs.Counts.{Count, first_count}
 use Rattle.ring_core.specs.GoingOn.{LastTakesReadOne}
 
 -- if the access reads the last bit of a row, it returns 1
@@ -33,24 +33,14 @@ one_at row modulus (y ∷ made) x rest (one, p) = one_at row modulus made x rest
 
 -- bits of a row are distinguished by their numbers
 pub same_number : (s : Side) (i j : ℕ) → row_read_by s i ≡ row_read_by s j → i ≡ j
-same_number P i j e = cc
-same_number C i j e = cc
+same_number s i j e = grind arith
 
 one-zeros : (s : Side) (modulus c : ℕ) → c < modulus → AllOne (row_read_by s) modulus (zero_reads (row_read_by s) c)
 one-zeros s modulus zero l = record {}
-one-zeros s modulus (suc c) l =
-    one-append (row_read_by s) modulus (zero_reads (row_read_by s) c) (Read (row_read_by s c) false ∷ []) (one-zeros s modulus c (omega (arith, l))) (
-      (λ i v e last.
-          (let bits : row_read_by s c ≡ row_read_by s i = cc in
-          let same : c ≡ i = same_number s c i bits in
-          absurd (omega (arith, l, same, last)))),
-      record {},
-    )
+one-zeros s modulus (suc c) l = grind (arith, one-append, same_number, one-zeros s modulus c (omega (arith, l)))
 
 pub one-scan : (s : Side) (modulus c : ℕ) → c < modulus → AllOne (row_read_by s) modulus (scan_phrase (row_read_by s) c)
-one-scan s modulus c l =
-    one-append (row_read_by s) modulus (zero_reads (row_read_by s) c) (Read (row_read_by s c) true ∷ []) (one-zeros s modulus c l)
-    ((λ i v e last. let answers : true ≡ v = cc in sym answers), record {})
+one-scan s modulus c l = grind (arith, one-append, one-zeros s modulus c l)
 
 pub one-writes : (s : Side) (row : ℕ → Bit) (modulus : ℕ) (writes : List RowWrite) → AllOne (row_read_by s) modulus (writes_in row writes)
 one-writes s row modulus [] = record {}
@@ -58,46 +48,28 @@ one-writes s row modulus (w ∷ writes) = ((λ i v e last. absurd (cc)), one-wri
 
 one-reads : (modulus cell item n : ℕ) → AllOne (row_read_by C) modulus (digit_reads cell item n)
 one-reads modulus cell item zero = record {}
-one-reads modulus cell item (suc n) =
-    one-append (row_read_by C) modulus (digit_reads cell item n) (Read (Cell cell n) (digit n item) ∷ []) (one-reads modulus cell item n)
-    ((λ i v e last. let bits : Cell cell n ≡ S i = cc in absurd (cc)), record {})
+one-reads modulus cell item (suc n) = grind (arith, one-append, one-reads modulus cell item n)
 
 one-words : (shape : Shape) (n : ℕ) (items : List ℕ) → AllOne (row_read_by C) (modulus_of shape) (words_read shape n items)
 one-words shape n [] = record {}
-one-words shape n (item ∷ items) =
-    one-append (row_read_by C) (modulus_of shape) (word_read (width_of shape) (n % capacity_of shape) item) (words_read shape (suc n) items)
-    (one-reads (modulus_of shape) (n % capacity_of shape) item (width_of shape)) (one-words shape (suc n) items)
+one-words shape n (item ∷ items) = search (arith, one-append, one-reads, one-words shape (suc n) items)
 
 one-items : (shape : Shape) (c : Count) (items : List ℕ) → AllOne (row_read_by C) (modulus_of shape) (items_phrase shape c items)
-one-items shape c items =
-    one-append (row_read_by C) (modulus_of shape) (words_read shape c.number items) (batch_phrase shape C c items)
-    (one-words shape c.number items) (one-writes C (row_bit C) (modulus_of shape) (count_bits shape c items))
+one-items shape c items = search (arith, one-append, one-words, one-writes)
 
 one-close : (modulus : ℕ) (v : Bool) (rest : List Made) → AllOne (row_read_by C) modulus rest → AllOne (row_read_by C) modulus (Read X v ∷ rest)
 one-close modulus v rest p = ((λ i w e last. let bits : X ≡ S i = cc in absurd (cc)), p)
 
 one-take : (shape : Shape) (z : Count) (x : Take) → IsTake shape z.number x → AllOne (row_read_by C) (modulus_of shape) (take_phrase shape z x)
-one-take shape z (Item c i) (sees, fits) =
-    one-append (row_read_by C) (modulus_of shape) (scan_phrase (row_read_by C) c) (items_phrase shape z i) (one-scan C (modulus_of shape) c sees.0) (one-items shape z i)
-one-take shape z (ItemAfterClose c d i) (none, sees, fits) =
-    one-append (row_read_by C) (modulus_of shape) (scan_phrase (row_read_by C) c ++ Read X true ∷ scan_phrase (row_read_by C) d) (items_phrase shape z i)
-    (one-append (row_read_by C) (modulus_of shape) (scan_phrase (row_read_by C) c) (Read X true ∷ scan_phrase (row_read_by C) d) (one-scan C (modulus_of shape) c none.0)
-    (one-close (modulus_of shape) true (scan_phrase (row_read_by C) d) (one-scan C (modulus_of shape) d sees.0)))
-    (one-items shape z i)
-one-take shape z (Empty c) none =
-    one-append (row_read_by C) (modulus_of shape) (scan_phrase (row_read_by C) c) (Read X false ∷ []) (one-scan C (modulus_of shape) c none.0)
-    (one-close (modulus_of shape) false [] (record {}))
+one-take shape z (Item c i) (sees, fits) = search (arith, one-append, one-scan, one-items)
+one-take shape z (ItemAfterClose c d i) (none, sees, fits) = search (arith, one-append, one-scan, one-close, one-items)
+one-take shape z (Empty c) none = search (arith, one-append, one-scan, one-close)
 
 one-calls :
     (shape : Shape) (z : Count) (takes : List Take) (end : End) → AreTakes shape z.number takes end → AllOne (row_read_by C) (modulus_of shape) (take_phrases shape z takes ++ end_phrase end)
 one-calls shape z [] Open p = record {}
-one-calls shape z [] (Closed c d) (none, none') =
-    one-append (row_read_by C) (modulus_of shape) (scan_phrase (row_read_by C) c) (Read X true ∷ scan_phrase (row_read_by C) d) (one-scan C (modulus_of shape) c none.0)
-    (one-close (modulus_of shape) true (scan_phrase (row_read_by C) d) (one-scan C (modulus_of shape) d none'.0))
-one-calls shape z (x ∷ takes) end (is, p) =
-    subst (AllOne (row_read_by C) (modulus_of shape)) (sym (append_assoc (take_phrase shape z x) (take_phrases shape (count_after shape z x) takes) (end_phrase end)))
-    (one-append (row_read_by C) (modulus_of shape) (take_phrase shape z x) (take_phrases shape (count_after shape z x) takes ++ end_phrase end) (one-take shape z x is)
-    (one-calls shape (count_after shape z x) takes end p))
+one-calls shape z [] (Closed c d) (none, none') = search (arith, one-append, one-scan, one-close)
+one-calls shape z (x ∷ takes) end (is, p) = grind (arith, append_assoc, one-append, one-take, one-calls shape (count_after shape z x) takes end p)
 
 pub last-takes_read_one : LastTakesReadOne
 last-takes_read_one shape calls p made i v rest e last =

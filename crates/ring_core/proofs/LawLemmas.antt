@@ -20,10 +20,8 @@ use Rattle.ring_core.proofs.Machines.OneWordMore.{ItemsFitByOneMore, WordsByOneM
 use Rattle.ring_core.specs.RingLaw.{CellsAreQuiet, ClosedIsTrue, EmptyIsFresh, FillIsFresh, DrainIsFresh, FullIsFresh, InEveryRun, IsWithin, RingLaw, TakenArePrefix, TakesMatchPuts, WordsAreQuiet}
 use Rattle.ring_core.specs.Ranges.{PutsAreInRange, TakesAreInRange}
 use Rattle.ring_core.specs.RunLaws.{ClosedStays}
-pub use Rattle.ring_core.proofs.Readings.PutsRead.{puts-are_read as puts_are_read}
-pub use Rattle.ring_core.proofs.Readings.TakesRead.{takes-are_read as takes_are_read}
-pub use Rattle.ring_core.proofs.Readings.ItemsRead.{puts-are_first as calls_are_first_puts, items-are_read as items_put_are_read}
-pub use Rattle.ring_core.proofs.Readings.TakenRead.{takes-are_first as calls_are_first_takes, taken-are_read as items_taken_are_read}
+pub use Rattle.ring_core.proofs.Readings.ItemsRead.{puts-are_first as calls_are_first_puts, puts-are_read as puts_are_read, items-are_read as items_put_are_read}
+pub use Rattle.ring_core.proofs.Readings.TakesRead.{takes-are_first as calls_are_first_takes, takes-are_read as takes_are_read}
 pub use Rattle.ring_core.proofs.Recorded.RecordedByOne.{puts-tell as events_tell_by_one_puts, takes-tell as events_tell_by_one_takes}
 pub use Rattle.ring_core.proofs.Readings.WholeCalls.{whole-puts as whole_calls_count_puts, whole-takes as whole_calls_count_takes}
 pub use Rattle.ring_core.proofs.Machines.Lengths.{item_puts-are_short as calls_are_short_item_puts, full_puts-are_short as calls_are_short_full_puts, puts-are_short as calls_are_short_puts, takes-are_short as calls_are_short_takes, ends-are_short as calls_are_short_ends}
@@ -35,7 +33,7 @@ pub use Rattle.ring_core.proofs.Machines.PutParts.{scans-or_closes as puts_go_on
 pub use Rattle.ring_core.proofs.LastBits.{last-takes_read_one as last_reads_are_one_takes}
 pub use Rattle.ring_core.proofs.Machines.Following.{puts-are_followed as calls_are_followed_puts, takes-are_followed as calls_are_followed_takes}
 pub use Rattle.ring_core.proofs.NeverMisses.{puts-are_seen as last_bit_is_one_puts, takes-are_seen as last_bit_is_one_takes}
-pub use Rattle.ring_core.proofs.Readings.Over.{puts_over-read as calls_over_are_read_puts, takes_over-read as calls_over_are_read_takes}
+pub use Rattle.ring_core.proofs.Readings.Over.{puts_over-read as calls_over_are_read_puts, takes_over-read as calls_over_are_read_takes, taken-are_read as items_taken_are_read}
 pub use Rattle.ring_core.proofs.OneMore.{runs-by_put as runs_by_one_more_put, runs-by_take as runs_by_one_more_take}
 pub use Rattle.ring_core.proofs.Witness.{has-a_run as has_a_run}
 

@@ -1,10 +1,10 @@
 -- A count whose writer follows its program is never read as 0 in all its bits.
-use Rattle.std.proofs.Common.{◌≡◌, inl, inr, ℕ, zero, suc, ◌+◌, ◌-◌, ◌*◌, ◌%◌, ◌<◌, ◌≤◌, false, Some, List, [], ◌∷◌, ◌++◌, length, refl, sym, ap, subst, ◌∙◌, arith, append_assoc}
+use Rattle.std.proofs.Common.{◌≡◌, inl, inr, ℕ, zero, suc, ◌+◌, ◌-◌, ◌*◌, ◌≤◌, false, Some, List, [], ◌∷◌, ◌++◌, length, refl, ap, subst, ◌∙◌, arith, append_assoc}
 use Rattle.std.specs.Prelude.{All, slice_get}
 use Rattle.std.proofs.lemmas.List.Elements.{All-nil, All-append}
 use Rattle.std.proofs.lemmas.Nat.{mod_below}
 use Rattle.bits_core.specs.declared.events.Side.{Side}
-use Rattle.bits_core.specs.declared.events.Side.TheVariants.{P, C}
+use Rattle.bits_core.specs.declared.events.Side.TheVariants.{C}
 use Rattle.bits_core.specs.declared.events.Event.{Event}
 use Rattle.bits_core.specs.declared.shapes.Shape.{Shape}
 use Rattle.bits_core.specs.Shape.{modulus_of}
@@ -16,10 +16,9 @@ use Rattle.register_core.specs.Row.{row_bit}
 use Rattle.register_core.specs.ScanState.{zero_reads, row_read_by}
 use Rattle.register_core.specs.UnaryLaw.{ReadsZeros}
 use Rattle.register_core.specs.MadeReads.{begin_place, end_place}
-use Rattle.ring_core.specs.Counts.{number_past, first_count}
-use Rattle.ring_core.proofs.OverSpans.Spans.{Outcome, Passes, Stops, Asks}
-use Rattle.ring_core.specs.Puts.{close_phrase}
-use Rattle.ring_core.proofs.OverSpans.LookSpans.{Look, put_looks, take_looks, look_number, look_accesses}
+use Rattle.ring_core.specs.Counts.{first_count}
+use Rattle.ring_core.proofs.OverSpans.Spans.{Outcome}
+use Rattle.ring_core.proofs.OverSpans.LookSpans.{Look, take_looks, look_number, look_accesses}
 use Rattle.ring_core.specs.RunLaws.{NeverReadsAll, NeverMisses, PutsAreSeen, TakesAreSeen}
 use Rattle.ring_core.proofs.Readings.Cuts.{at_most_or_above}
 use Rattle.ring_core.proofs.CountTimes.{IsQuiet, quiet_close, values_from, value_of, counted_in}
@@ -37,18 +36,11 @@ one_within last v l (suc k) d m = absurd (omega (arith, m))
 
 -- none is above the number of the last bit
 value_within : (shape : Shape) (n : ℕ) (o : Outcome) (last : ℕ) → suc last ≡ modulus_of shape → All (λ v. v ≤ last) (value_of shape n o)
-value_within shape n (Passes items) last e =
-    let v : ℕ = number_past n items % modulus_of shape in
-    let below : v < modulus_of shape = mod_below (number_past n items) (modulus_of shape) (omega (arith, e)) in
-    one_within last v (omega (arith, e, below))
-value_within shape n Stops last e = All-nil _
-value_within shape n (Asks answer) last e = All-nil _
+value_within shape n o last e = grind (arith, mod_below, one_within, All-nil)
 
 counted_within : (shape : Shape) (n : ℕ) (looks : List Look) (last : ℕ) → suc last ≡ modulus_of shape → All (λ v. v ≤ last) (values_from shape n looks)
 counted_within shape n [] last e = All-nil _
-counted_within shape n (l ∷ looks) last e =
-    All-append (λ u. u ≤ last) (value_of shape n l.outcome) (values_from shape (look_number n l.outcome) looks) (value_within shape n l.outcome last e)
-    (counted_within shape (look_number n l.outcome) looks last e)
+counted_within shape n (l ∷ looks) last e = grind (arith, All-append, value_within, counted_within shape (look_number n l.outcome) looks last e)
 
 -- so the last bit is not read as 0 after all others
 never_reads :
@@ -72,8 +64,7 @@ module _ (s : Side) (h : List Event) (made : List Made) (follows : IsPrefix (sub
   -- the reads of 0 below the last bit are reads of the history
   zeros_there : ReadsZeros s h last (begin_place (other s) h (length before)) (end_place (other s) h (length before))
   zeros_there =
-      let parts' : made ≡ before ++ (zero_reads (row_read_by (other s)) last ++ Read (row_bit s last) false ∷ after) =
-      subst (λ (w : Side). made ≡ before ++ (zero_reads (row_bit w) last ++ Read (row_bit s last) false ∷ after)) (sym (other_twice s)) parts in
+      let parts' : made ≡ before ++ (zero_reads (row_read_by (other s)) last ++ Read (row_bit s last) false ∷ after) = grind arith in
       subst (λ (w : Side). ReadsZeros w h last (begin_place (other s) h (length before)) (end_place (other s) h (length before))) (other_twice s)
       (reads_are_made_zeros (other s) h made follows before (Read (row_bit s last) false ∷ after) last parts' (omega (arith, ended)))
 
@@ -90,8 +81,7 @@ module _ (s : Side) (h : List Event) (made : List Made) (follows : IsPrefix (sub
       (behind_list zeros (x ∷ after) 0 last x (omega (arith, length-zero_reads (row_bit s) last)) refl) in
       let (stop, there_at) = made_is_access (other s) h made follows n x there (omega (arith, ended)) in
       let (stop_is, ends) = there_at.ended (omega (arith, ended)) in
-      let read : IsRead h (other s) (row_bit s last) (begin_place (other s) h (length before) last) stop false =
-      record { access = there_at.access; ends = ends } in
+      let read : IsRead h (other s) (row_bit s last) (begin_place (other s) h (length before) last) stop false = grind arith in
       subst (λ (p : ℕ). IsRead h (other s) (row_bit s last) (begin_place (other s) h (length before) last) p false)
       (subhistory_has_one_place (other s) h (suc (2 * n)) stop stop_is) read
 
@@ -100,9 +90,7 @@ never_misses : (s : Side) (shape : Shape) (h : List Event) → NeverReadsAll s s
 never_misses s shape h never made before after follows parts =
     let last : ℕ = modulus_of shape - 1 in
     let size : suc last ≡ modulus_of shape = omega (arith, shape.room_to_count) in
-    let parts' : made ≡ before ++ (zero_reads (row_bit s) last ++ Read (row_bit s last) false ∷ after) =
-    parts ∙ ap (λ n. before ++ (zero_reads (row_bit s) n ++ after)) (sym size) ∙
-    ap (λ l. before ++ l) (append_assoc (zero_reads (row_bit s) last) (Read (row_bit s last) false ∷ []) after) in
+    let parts' : made ≡ before ++ (zero_reads (row_bit s) last ++ Read (row_bit s last) false ∷ after) = grind (arith, append_assoc) in
     elim (at_most_or_above (2 * (length before + modulus_of shape)) (length (subhistory (other s) h))) [
       | inr m ↦ m
       | inl m ↦ absurd (
@@ -113,10 +101,7 @@ never_misses s shape h never made before after follows parts =
 
 -- a consumer does not read the producer's count as 0 in all bits
 pub puts-are_seen : PutsAreSeen
-puts-are_seen shape h puts lawful follows =
-    let never : NeverReadsAll P shape h =
-    never_reads shape h lawful P (put_looks puts.puts) (close_phrase puts.closes) (quiet_close puts.closes) (put_events shape h puts follows) in
-    (never, never_misses P shape h never)
+puts-are_seen shape h puts lawful follows = search (arith, never_reads, quiet_close, put_events, never_misses)
 
 -- a producer does not read the consumer's count as 0 in all bits
 pub takes-are_seen : TakesAreSeen

@@ -1,14 +1,10 @@
 -- A side's own events before a place of a history, and the writes of its count among them.
 use Rattle.std.proofs.Common.{◌≡◌, inl, inr, ℕ, zero, suc, ◌-◌, ◌≤◌, true, false, Some, None, List, [], ◌∷◌, ◌++◌, length, take, drop, slice_get, refl, sym, ap, ◌∙◌, take-append-drop, arith}
-use Rattle.std.specs.List.{cons_option}
 use Rattle.std.proofs.Math.Seq.{take-append_seam, take-length}
 use Rattle.std.proofs.lemmas.List.Elements.{filter-append}
 use Rattle.bits_core.specs.declared.events.Side.{Side}
-use Rattle.bits_core.specs.declared.events.Side.TheVariants.{P, C}
 use Rattle.bits_core.specs.declared.events.Bit.{Bit}
-use Rattle.bits_core.specs.declared.events.Bit.TheVariants.{S, R, X, Cell}
 use Rattle.bits_core.specs.declared.events.Act.{Act}
-use Rattle.bits_core.specs.declared.events.Act.TheVariants.{ReadBegin, ReadEnd, WriteBegin, WriteEnd}
 use Rattle.bits_core.specs.declared.events.Event.{Event}
 use Rattle.bits_core.specs.declared.shapes.Shape.{Shape}
 use Rattle.bits_core.specs.Bits.{same_side, is_by, doer}
@@ -16,12 +12,11 @@ use Rattle.bits_core.specs.History.{has_event, before_last}
 use Rattle.bits_core.specs.Lawful.{IsLawful}
 use Rattle.bits_core.specs.Made.{subhistory, clock, place_of}
 use Rattle.register_core.specs.Row.{row_write}
-use Rattle.register_core.specs.UnaryLaw.{number_in_count, count_write, count_begun, count_ended}
+use Rattle.register_core.specs.UnaryLaw.{number_in_count, count_begun, count_ended}
 use Rattle.ring_core.proofs.OverSpans.Clocks.{IsPlace}
 use Rattle.ring_core.proofs.Readings.Cuts.{at_most_or_above}
 use Rattle.bits_core.proofs.OwnEvents.{own-no, own-yes}
 pub use Rattle.bits_core.proofs.OwnEvents.{by_case, clock_rises, clock_within}
-use Rattle.register_core.proofs.Numbers.{before_last-more as before_last-yes, before_last-none as before_last-no}
 use Rattle.bits_core.proofs.LawLemmas.{subhistory_has_place}
 
 -- ---- clocks and places
@@ -32,8 +27,7 @@ own_parts s h place = ap (subhistory s) (sym (take-append-drop place h)) ∙ fil
 
 -- a side's own events before a place are its first ones, as many as its clock says there
 own_take : (s : Side) (h : List Event) (place : ℕ) → subhistory s (take place h) ≡ take (clock s h place) (subhistory s h)
-own_take s h place =
-    sym (ap (take (length (subhistory s (take place h)))) (own_parts s h place) ∙ take-append_seam (subhistory s (take place h)) (subhistory s (drop place h)))
+own_take s h place = grind (arith, own_parts s h place, take-append_seam (subhistory s (take place h)) (subhistory s (drop place h)))
 
 -- at the end it says how many there are
 pub clock_end : (s : Side) (h : List Event) → clock s h (length h) ≡ length (subhistory s h)
@@ -71,33 +65,16 @@ doers_take (e ∷ h) (suc place) d = (d.0, doers_take h place d.1)
 
 doers_before : (s : Side) (h : List Event) → AreByDoers h → AreByDoers (before_last s h)
 doers_before s [] d = tt
-doers_before s (e ∷ h) d =
-    by_case (has_event s h) (λ f. rw (before_last-yes s e h f) (d.0, doers_before s h d.1)) (λ f. rw (before_last-no s e h f) tt)
+doers_before s (e ∷ h) d = grind (arith, doers_before s h d.1)
 
 -- ---- the writes of a side's count are its own
 
 other_none : (s by : Side) (b : Bit) (act : Act) → by ≡ doer b act → same_side s by ≡ false → row_write (number_in_count s b) act ≡ None
-other_none P by (S i) ReadBegin d f = refl
-other_none P by (S i) (ReadEnd v) d f = refl
-other_none P by (S i) (WriteBegin v) d f = absurd (let g : true ≡ false = ap (same_side P) (sym d) ∙ f in cc)
-other_none P by (S i) WriteEnd d f = refl
-other_none P by (R i) act d f = refl
-other_none P by X act d f = refl
-other_none P by (Cell j i) act d f = refl
-other_none C by (S i) act d f = refl
-other_none C by (R i) ReadBegin d f = refl
-other_none C by (R i) (ReadEnd v) d f = refl
-other_none C by (R i) (WriteBegin v) d f = absurd (let g : true ≡ false = ap (same_side C) (sym d) ∙ f in cc)
-other_none C by (R i) WriteEnd d f = refl
-other_none C by X act d f = refl
-other_none C by (Cell j i) act d f = refl
+other_none s by b act d f = grind arith
 
 own_count : (s : Side) (h : List Event) → AreByDoers h → count_begun s h ≡ count_begun s (subhistory s h)
 own_count s [] d = refl
-own_count s (e ∷ h) d =
-    by_case (is_by s e)
-    (λ f. rw (own-yes s e h f) (ap (cons_option (count_write s e)) (own_count s h d.1)))
-    (λ f. rw (own-no s e h f, other_none s e.side e.bit e.act d.0 f) (own_count s h d.1))
+own_count s (e ∷ h) d = grind (arith, other_none, own_count s h d.1)
 
 -- the same in a lawful history
 pub count_begun_own : (shape : Shape) (s : Side) (h : List Event) → IsLawful shape h → count_begun s h ≡ count_begun s (subhistory s h)
@@ -107,8 +84,7 @@ count_begun_own shape s h lawful = own_count s h (lawful_doers shape h lawful)
 pub count_begun_before :
     (shape : Shape) (s : Side) (h : List Event) → IsLawful shape h → (place : ℕ) →
     count_begun s (take place h) ≡ count_begun s (take (clock s h place) (subhistory s h))
-count_begun_before shape s h lawful place =
-    own_count s (take place h) (doers_take h place (lawful_doers shape h lawful)) ∙ ap (count_begun s) (own_take s h place)
+count_begun_before shape s h lawful place = grind (arith, own_count, doers_take, lawful_doers, own_take)
 
 -- ---- a side's own events except the last
 
@@ -131,31 +107,11 @@ none_own s (e ∷ h) f =
     own-no s e h g ∙ none_own s h k)
 
 take_more : (n : ℕ) (e : Event) (xs : List Event) → 1 ≤ n → e ∷ take (n - 1) xs ≡ take n (e ∷ xs)
-take_more zero e xs l = absurd (omega (arith, l))
-take_more (suc n) e xs l =
-    let same : suc n - 1 ≡ n = omega arith in
-    ap (λ (k : ℕ). e ∷ take k xs) same
+take_more n e xs l = grind arith
 
 own_before : (s : Side) (h : List Event) → subhistory s (before_last s h) ≡ take (length (subhistory s h) - 1) (subhistory s h)
 own_before s [] = refl
-own_before s (e ∷ h) =
-    by_case (has_event s h)
-    (λ f. by_case (is_by s e)
-    (λ g.
-    let n : ℕ = length (subhistory s h) in
-    let less : suc n - 1 ≡ n = omega arith in
-    ap (subhistory s) (before_last-yes s e h f) ∙ own-yes s e (before_last s h) g ∙ ap (λ (l : List Event). e ∷ l) (own_before s h) ∙
-    take_more n e (subhistory s h) (some_own s h f) ∙ ap (λ (k : ℕ). take k (e ∷ subhistory s h)) (sym less) ∙
-    ap (λ (l : List Event). take (length l - 1) l) (sym (own-yes s e h g)))
-    (λ g.
-    ap (subhistory s) (before_last-yes s e h f) ∙ own-no s e (before_last s h) g ∙ own_before s h ∙
-    ap (λ (l : List Event). take (length l - 1) l) (sym (own-no s e h g))))
-    (λ f. by_case (is_by s e)
-    (λ g.
-    ap (subhistory s) (before_last-no s e h f) ∙
-    ap (λ (l : List Event). take (length l - 1) l) (sym (own-yes s e h g ∙ ap (λ (l : List Event). e ∷ l) (none_own s h f))))
-    (λ g.
-    ap (subhistory s) (before_last-no s e h f) ∙ ap (λ (l : List Event). take (length l - 1) l) (sym (own-no s e h g ∙ none_own s h f))))
+own_before s (e ∷ h) = grind (arith, take_more, some_own, none_own, own_before s h)
 
 take-take_less : (xs : List Event) (n : ℕ) → n ≤ length xs → take (length (take n xs) - 1) (take n xs) ≡ take (n - 1) xs
 take-take_less xs zero l = refl

@@ -6,7 +6,6 @@ pub mod Over
 pub mod Parts
 pub mod Phrases
 pub mod PutsRead
-pub mod TakenRead
 pub mod TakesFirst
 pub mod TakesRead
 pub mod WholeCalls

@@ -66,12 +66,10 @@ own_ends s h i place (here, past) = omega (arith, past, clock_within s h (suc pl
 -- how many events the puts of a program have
 pub put_total : (shape : Shape) (calls : Puts) → total (put_spans shape calls) ≡ 2 * length (put_phrases shape first_count calls.puts)
 put_total shape calls =
-    total_is P shape first_count (put_looks calls.puts) ∙
-    ap (λ l. 2 * length l) (sym (puts_as_looks shape first_count calls.puts false) ∙ append-nil (put_phrases shape first_count calls.puts))
+    grind (arith, total_is P shape first_count (put_looks calls.puts), puts_as_looks shape first_count calls.puts false, append-nil (put_phrases shape first_count calls.puts))
 
 take_total : (shape : Shape) (calls : Takes) → total (take_spans shape calls) ≡ 2 * length (take_program shape calls)
-take_total shape calls =
-    total_is C shape first_count (take_looks calls.takes calls.end) ∙ ap (λ l. 2 * length l) (sym (takes_as_looks shape first_count calls.takes calls.end))
+take_total shape calls = grind (arith, total_is, take_looks, takes_as_looks)
 
 -- the items of all puts
 pub all_is : (shape : Shape) (c : Count) (puts : List Put) → all_items (spans P shape c (put_looks puts)) ≡ all_put puts
@@ -99,14 +97,8 @@ module _ (shape : Shape) (h : List Event) (puts : Puts) (takes : Takes) (run : I
       one_place C h (2 * length front) first (subst (λ i. IsPlace (clock C h) i first) start_is is_first) in
       let last_is : last ≡ stop =
       one_place C h (suc (2 * length front)) last (subst (λ i. IsPlace (clock C h) i last) e_is is_last) ∙ sym (subhistory_has_one_place C h (suc (2 * length front)) stop stop_is) in
-      let read : intervals.IsRead h C X first last answer =
-      subst (λ a. intervals.IsRead h C X a last answer) (sym first_is)
-      (subst (λ b. intervals.IsRead h C X (place_of C h (2 * length front)) b answer) (sym last_is) (record { access = made_at.access; ends = answers })) in
-      let order : first ≤ last =
-      elim (at_most_or_above first last) [
-        | inl m ↦ m
-        | inr m ↦ absurd (omega (arith, clock_rises C h (suc last) first m, is_first, is_last, e_is, start_is))
-      ] in
+      let read : intervals.IsRead h C X first last answer = grind arith in
+      let order : first ≤ last = grind (arith, at_most_or_above) in
       let (on_zero, on_one) = read_of_close shape h run.lawful puts.puts puts.closes run.puts_follow.events first last answer read order in
       ((λ f. omega (arith, on_zero f, put_total shape puts)), (λ t. omega (arith, on_one t, put_total shape puts)))
 
@@ -133,9 +125,7 @@ module _ (shape : Shape) (h : List Event) (puts : Puts) (takes : Takes) (run : I
   }
 
   pub law : SpanLaw (modulus_of shape) (capacity_of shape) (batch_of shape) (take_batch_of shape) (2 * width_of shape) (clock P h) (clock C h) (put_spans shape puts) (take_spans shape takes)
-  law = span_law (modulus_of shape) (capacity_of shape) (batch_of shape) (take_batch_of shape) (2 * width_of shape) (clock P h) (clock C h) (put_spans shape puts) (take_spans shape takes)
-      (proper_puts shape puts run.puts_follow.are) (proper_takes shape takes run.takes_follow.are)
-      ring
+  law = grind (arith, span_law, proper_puts, proper_takes, ring)
 
   -- ---- the law, in terms of calls
 

@@ -1,13 +1,12 @@
 -- A scan among the accesses of a program is that of a look.
-use Rattle.std.proofs.Common.{◌≡◌, inl, inr, ℕ, zero, suc, ◌+◌, ◌*◌, ◌%◌, Bool, true, false, List, [], ◌∷◌, ◌++◌, length, refl, sym, ap, ◌∙◌, arith, length-append, append-nil}
+use Rattle.std.proofs.Common.{◌≡◌, inl, inr, ℕ, zero, suc, ◌+◌, ◌*◌, Bool, true, false, List, [], ◌∷◌, ◌++◌, length, refl, sym, ap, ◌∙◌, arith, length-append, append-nil}
 use Rattle.bits_core.specs.declared.events.Side.{Side}
 use Rattle.bits_core.specs.declared.events.Side.TheVariants.{P, C}
 use Rattle.bits_core.specs.declared.events.Bit.{Bit}
 use Rattle.bits_core.specs.declared.events.Bit.TheVariants.{X, Cell}
 use Rattle.bits_core.specs.declared.shapes.Shape.{Shape}
-use Rattle.bits_core.specs.Shape.{capacity_of, width_of}
 use Rattle.bits_core.specs.Made.{Made, Read}
-use Rattle.register_core.specs.Phrases.{RowWrite, row_bit, writes_in, digit, digit_writes, digit_reads, word_read, word_write, zero_reads, scan_phrase, row_read_by}
+use Rattle.register_core.specs.Phrases.{RowWrite, row_bit, writes_in, digit_reads, zero_reads, scan_phrase, row_read_by}
 use Rattle.ring_core.specs.Counts.{Count, count_bits}
 use Rattle.ring_core.specs.Puts.{words_phrase, close_phrase}
 use Rattle.ring_core.specs.CallsAt.{scan_events}
@@ -27,8 +26,7 @@ NoneFirst s = NoneAre (IsFirst s)
 
 -- the row's other bits
 not_next : (s : Side) (i : ℕ) (u : Bool) → IsFirst s (Read (row_read_by s (suc i)) u) → ⊥
-not_next P i u (v, e) = let other : suc i ≡ 0 = cc in omega (arith, other)
-not_next C i u (v, e) = let other : suc i ≡ 0 = cc in omega (arith, other)
+not_next s i u h1 = grind arith
 
 none-zeros : (s : Side) (n : ℕ) → NoneFirst s (zero_reads (λ i. row_read_by s (suc i)) n)
 none-zeros s zero = tt
@@ -45,8 +43,7 @@ scan_splits row (suc c) = (false, scan-front row c)
 
 none-behind : (s : Side) (c : ℕ) → NoneFirst s (behind_first (row_read_by s) c)
 none-behind s zero = tt
-none-behind s (suc c) =
-    none-append (IsFirst s) (zero_reads (λ i. row_read_by s (suc i)) c) (Read (row_read_by s (suc c)) true ∷ []) (none-zeros s c) (not_next s c true, tt)
+none-behind s (suc c) = search (arith, none-append, none-zeros, not_next)
 
 -- words, counts and the close bit
 none-writes : (s : Side) (row : ℕ → Bit) (writes : List RowWrite) → NoneFirst s (writes_in row writes)
@@ -55,36 +52,27 @@ none-writes s row (w ∷ writes) = ((λ (v, e). absurd (cc)), none-writes s row 
 
 none-words : (s : Side) (shape : Shape) (n : ℕ) (items : List ℕ) → NoneFirst s (words_phrase shape n items)
 none-words s shape n [] = tt
-none-words s shape n (item ∷ items) =
-    none-append (IsFirst s) (word_write (width_of shape) (n % capacity_of shape) item) (words_phrase shape (suc n) items)
-    (none-writes s (Cell (n % capacity_of shape)) (digit_writes item (width_of shape))) (none-words s shape (suc n) items)
+none-words s shape n (item ∷ items) = search (arith, none-append, none-writes, none-words s shape (suc n) items)
 
 not_cell : (s : Side) (j i : ℕ) (u : Bool) → IsFirst s (Read (Cell j i) u) → ⊥
-not_cell P j i u (v, e) = absurd (cc)
-not_cell C j i u (v, e) = absurd (cc)
+not_cell s j i u h1 = grind arith
 
 not_close : (s : Side) (u : Bool) → IsFirst s (Read X u) → ⊥
-not_close P u (v, e) = absurd (cc)
-not_close C u (v, e) = absurd (cc)
+not_close s u h1 = grind arith
 
 none-digits : (s : Side) (j item n : ℕ) → NoneFirst s (digit_reads j item n)
 none-digits s j item zero = tt
-none-digits s j item (suc n) =
-    none-append (IsFirst s) (digit_reads j item n) (Read (Cell j n) (digit n item) ∷ []) (none-digits s j item n) (not_cell s j n (digit n item), tt)
+none-digits s j item (suc n) = grind (arith, none-append, not_cell, none-digits s j item n)
 
 none-words_read : (s : Side) (shape : Shape) (n : ℕ) (items : List ℕ) → NoneFirst s (words_read shape n items)
 none-words_read s shape n [] = tt
-none-words_read s shape n (item ∷ items) =
-    none-append (IsFirst s) (word_read (width_of shape) (n % capacity_of shape) item) (words_read shape (suc n) items)
-    (none-digits s (n % capacity_of shape) item (width_of shape)) (none-words_read s shape (suc n) items)
+none-words_read s shape n (item ∷ items) = search (arith, none-append, none-digits, none-words_read s shape (suc n) items)
 
 none-word_part : (s : Side) (shape : Shape) (n : ℕ) (o : Outcome) → NoneFirst s (word_part s shape n o)
 none-word_part P shape n (Passes items) = none-words P shape n items
 none-word_part C shape n (Passes items) = none-words_read C shape n items
-none-word_part P shape n Stops = tt
-none-word_part C shape n Stops = tt
-none-word_part P shape n (Asks answer) = (not_close P answer, tt)
-none-word_part C shape n (Asks answer) = (not_close C answer, tt)
+none-word_part s shape n Stops = grind arith
+none-word_part s shape n (Asks answer) = grind (arith, not_close)
 
 none-count_part : (s : Side) (shape : Shape) (c : Count) (o : Outcome) → NoneFirst s (count_part s shape c o)
 none-count_part s shape c (Passes items) = none-writes s (row_bit s) (count_bits shape c items)
@@ -92,8 +80,7 @@ none-count_part s shape c Stops = tt
 none-count_part s shape c (Asks answer) = tt
 
 pub none-close : (s : Side) (closes : Bool) → NoneAre (IsFirst s) (close_phrase closes)
-none-close s false = tt
-none-close s true = ((λ (v, e). absurd (cc)), tt)
+none-close s closes = grind arith
 
 -- ---- the look
 
@@ -108,10 +95,7 @@ pub record ScanSpan (s : Side) (xs : List Span) (start seen : ℕ) : Type 0 wher
 pub scan_there :
     (s : Side) (shape : Shape) (c : Count) (looks : List Look) (tail : List Made) → NoneAre (IsFirst s) tail → (before after : List Made) (seen : ℕ) →
     look_accesses s shape c looks tail ≡ before ++ (scan_phrase (row_read_by s) seen ++ after) → ScanSpan s (spans s shape c looks) (2 * length before) seen
-scan_there s shape c [] tail none before after seen e =
-    let (v, rest, f) = scan_begins (row_read_by s) seen after in
-    let (front, is, left) = behind (IsFirst s) tail [] before rest (Read (row_read_by s 0) v) (v, refl) none (append-nil tail ∙ e ∙ ap (λ l. before ++ l) f) in
-    absurd (never front _ rest left)
+scan_there s shape c [] tail none before after seen e = grind (arith, behind, never, scan_begins (row_read_by s) seen after, append-nil tail)
 scan_there s shape c (l ∷ looks) tail none [] after seen e =
     let (same, left) = same_scan (row_read_by s) l.seen seen _ after e in
     record { number = 0; span = span_of s shape c l; stands = inl (refl, refl, refl); seen_is = same; scan_is = ap (scan_events s) same }
@@ -124,8 +108,6 @@ scan_there s shape c (l ∷ looks) tail none (x ∷ before) after seen e =
     let (u, head) = scan_splits (row_read_by s) l.seen in
     let (v, rest, f) = scan_begins (row_read_by s) seen after in
     let z : Made = Read (row_read_by s 0) v in
-    let e' : Read (row_read_by s 0) u ∷ (reads ++ (word ++ (count ++ later))) ≡ x ∷ (before ++ (scan_phrase (row_read_by s) seen ++ after)) =
-    sym (ap (λ a. a ++ (word ++ (count ++ later))) head) ∙ e in
     let g : reads ++ (word ++ (count ++ later)) ≡ before ++ (scan_phrase (row_read_by s) seen ++ after) = cc in
     let (a, a_is, a_left) = behind (IsFirst s) reads (word ++ (count ++ later)) before rest z (v, refl) (none-behind s l.seen) (g ∙ ap (λ l. before ++ l) f) in
     let (b, b_is, b_left) = behind (IsFirst s) word (count ++ later) a rest z (v, refl) (none-word_part s shape c.number l.outcome) a_left in

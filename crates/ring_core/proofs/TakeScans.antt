@@ -1,5 +1,5 @@
 -- The scan of a take, the first or the second.
-use Rattle.std.proofs.Common.{◌≡◌, ◌⊎◌, ⊎_elim, ℕ, ◌≤◌, Bool, false, true, Option, Some, List, [], ◌++◌, ap, ◌∙◌}
+use Rattle.std.proofs.Common.{◌≡◌, ◌⊎◌, ⊎_elim, ℕ, ◌≤◌, Bool, false, true, Option, Some, List, [], ap, arith}
 use Rattle.bits_core.specs.declared.events.Side.TheVariants.{C}
 use Rattle.bits_core.specs.declared.events.Access.{Access}
 use Rattle.bits_core.specs.Shape.{modulus_of}
@@ -8,8 +8,8 @@ use Rattle.register_core.specs.ScanState.{ScanState, ScanStands, LastIsDue, IsSc
 use Rattle.register_core.specs.WordState.{ReaderState, ReaderStands}
 use Rattle.ring_core.specs.declared.consumers.Stage.TheVariants.{Scanning, Rescanning, Loading}
 use Rattle.ring_core.specs.Calls.{LastBitIsDue, EndsInZeros, IsScanning}
-use Rattle.ring_core.specs.Counts.{ShowsItem, distance, first_count}
-use Rattle.ring_core.specs.Takes.{Takes, take_phrases}
+use Rattle.ring_core.specs.Counts.{ShowsItem, distance}
+use Rattle.ring_core.specs.Takes.{Takes}
 use Rattle.ring_core.specs.ConsumerState.{ConsumerState, IsConsumer, IsTaking, due_take, consumer_due_at, is_taking}
 use Rattle.ring_core.specs.ConsumerCalls.{ConsumerStands, ConsumerMoves}
 use Rattle.ring_core.proofs.Machines.MachineParts.{ScanGoesOn, gives}
@@ -34,8 +34,7 @@ taking_there p at is = ⊎_elim (λ e. (at_stage p Scanning is e).1) (λ e. (at_
 pub next_there :
     (p : ConsumerState) (calls : Takes) (made : List Made) (due : Option Access) → IsAtScan p → IsConsumer p → ConsumerStands p calls made → due ≡ due_scan p.scan →
     Going p.shape p.wanted (is_taking p) calls made due
-next_there p calls made due at is stands due_is =
-    ⊎_elim (λ e. next_scan p calls made due e stands (taking_there p at is) (scans_there p at is) due_is) (λ e. next_rescan p calls made due e stands (taking_there p at is) (scans_there p at is) due_is) at
+next_there p calls made due at is stands due_is = grind (arith, ⊎_elim, next_scan, taking_there, scans_there, next_rescan)
 
 fresh_there : (p : ConsumerState) → IsAtScan p → IsConsumer p → p.items ≡ []
 fresh_there p at is = ⊎_elim (λ e. (at_stage p Scanning is e).2) (λ e. (at_stage p Rescanning is e).2) at
@@ -44,8 +43,7 @@ fresh_there p at is = ⊎_elim (λ e. (at_stage p Scanning is e).2) (λ e. (at_s
 pub open_keeps :
     (p : ConsumerState) (s : ScanState) (answer : Bool) → IsAtScan p → IsConsumer p → (LastBitIsDue p.shape C (due_take p) → answer ≡ true) →
     s ≡ scan_read p.scan answer → s.found ≡ false → IsConsumer (record p { scan = s })
-open_keeps p s answer at is one fed open_still =
-    ⊎_elim (λ e. scan_keeps p s answer is e one fed open_still) (λ e. rescan_keeps p s answer is e one fed open_still) at
+open_keeps p s answer at is one fed open_still = grind (arith, ⊎_elim, scan_keeps, rescan_keeps)
 
 pub open_on : (p : ConsumerState) (s : ScanState) (answer : Bool) → IsAtScan p → ScanGoesOn p.scan s answer → ConsumerMoves p answer (record p { scan = s })
 open_on p s answer at goes = ⊎_elim (λ e. scan_on p s answer e goes) (λ e. rescan_on p s answer e goes) at
@@ -61,8 +59,7 @@ pub has_given :
     (p : ConsumerState) (s : ScanState) (answer : Bool) (value : Option ℕ) (seen : ℕ) → IsAtScan p → IsConsumer p →
     record { state : s ≡ scan_read p.scan answer; stands : ScanGoesOn p.scan s answer } → value ≡ Some seen → ((reads : List Made) → ScanStands s reads → IsValueRead (row_read_by s.side) s.modulus reads value) →
     HasGiven p s answer seen
-has_given p s answer value seen at is fed some values =
-    record { at = at; fresh = fresh_there p at is; goes = fed.stands; is_scan = gives p.shape C p.scan s answer value seen (scans_there p at is) fed.state some values }
+has_given p s answer value seen at is fed some values = search (arith, fresh_there, gives, scans_there)
 
 -- it shows an item
 pub item_there :
@@ -77,20 +74,14 @@ item_there p s w answer seen most g enough wants all begins shows =
 pub zero_keeps :
     (p : ConsumerState) (s : ScanState) → IsAtScan p → IsConsumer p → (LastBitIsDue p.shape C (due_take p) → false ≡ true) → s ≡ scan_read p.scan false →
     IsConsumer (record p { scan = s })
-zero_keeps p s at is not_last fed =
-    let open_still : s.found ≡ false = ap (λ (x : ScanState). x.found) fed ∙ (scans_there p at is).not_found in
-    open_keeps p s false at is not_last fed open_still
+zero_keeps p s at is not_last fed = grind (arith, scans_there p, open_keeps p s false)
 
 scan_zeros :
     (p : ConsumerState) (calls : Takes) (made : List Made) → p.stage ≡ Scanning → ConsumerStands p calls made → IsScanning C (modulus_of p.shape) p.scan →
     LastIsDue p.scan → EndsInZeros p.shape C made
-scan_zeros p calls made e stands scans (not_found, last) =
-    let (rests, reads, scan_stands, made_is) = made_at Scanning p calls made e stands in
-    let front : List Made = take_phrases p.shape first_count calls.takes in
-    (front, p.scan.zeros, last ∙ scans.modulus_is, made_is ∙ ap (λ l. front ++ l) (scan_reads C (modulus_of p.shape) p.scan reads scans scan_stands))
+scan_zeros p calls made e stands scans (not_found, last) = grind (arith, made_at, scan_reads)
 
 -- if the last bit is due, the scan has read 0 in all bits below
 pub zeros_there :
     (p : ConsumerState) (calls : Takes) (made : List Made) → IsAtScan p → IsConsumer p → ConsumerStands p calls made → LastIsDue p.scan → EndsInZeros p.shape C made
-zeros_there p calls made at is stands last =
-    ⊎_elim (λ e. scan_zeros p calls made e stands (scans_there p at is) last) (λ e. rescan_zeros p calls made e stands (scans_there p at is) last) at
+zeros_there p calls made at is stands last = grind (arith, ⊎_elim, scan_zeros, scans_there, rescan_zeros)

@@ -36,8 +36,7 @@ lawful_by_steps :
     IsLawful shape (past ++ later)
 lawful_by_steps shape past [] lawful steps = subst (λ (h : List Event). IsLawful shape h) (sym (append-nil past)) lawful
 lawful_by_steps shape past (e ∷ later) lawful (step >> steps) =
-    subst (λ (h : List Event). IsLawful shape h) (append_assoc past (e ∷ []) later)
-    (lawful_by_steps shape (past ++ e ∷ []) later ((lawful_by_one_more shape past e).1 (lawful, step)) steps)
+    grind (arith, append_assoc, lawful_by_steps shape (past ++ e ∷ []) later ((lawful_by_one_more shape past e).1 (lawful, step)) steps)
 
 -- a read of a bit begins
 abbrev read : Side → Bit → Event
@@ -59,29 +58,25 @@ wrote side bit = record { side = side; bit = bit; act = WriteEnd }
 reading :
     {shape : Shape} {past : List Event} (side : Side) (bit : Bit) → belongs shape bit ≡ true → side ≡ reader bit → open_access side past ≡ None →
     MayFollow shape past (read side bit)
-reading side bit in_shape by_reader none_open =
-    record { right_side = record { in_shape = in_shape; by_doer = by_reader }; in_turn = none_open; permitted = tt }
+reading side bit in_shape by_reader none_open = grind arith
 
 -- it may end with an answer that is permitted
 answered :
     {shape : Shape} {past : List Event} (side : Side) (bit : Bit) (answer : Bool) → belongs shape bit ≡ true → side ≡ reader bit →
     open_access side past ≡ Some (access.Read bit) → IsAnswer past side bit answer → MayFollow shape past (got side bit answer)
-answered side bit answer in_shape by_reader reads permitted =
-    record { right_side = record { in_shape = in_shape; by_doer = by_reader }; in_turn = reads; permitted = permitted }
+answered side bit answer in_shape by_reader reads permitted = grind arith
 
 -- a write may begin when its side has no access open
 writing :
     {shape : Shape} {past : List Event} (side : Side) (bit : Bit) (value : Bool) → belongs shape bit ≡ true → side ≡ writer bit →
     open_access side past ≡ None → MayFollow shape past (write side bit value)
-writing side bit value in_shape by_writer none_open =
-    record { right_side = record { in_shape = in_shape; by_doer = by_writer }; in_turn = none_open; permitted = tt }
+writing side bit value in_shape by_writer none_open = grind arith
 
 -- it may end
 written :
     {shape : Shape} {past : List Event} (side : Side) (bit : Bit) (value : Bool) → belongs shape bit ≡ true → side ≡ writer bit →
     open_access side past ≡ Some (access.Write bit value) → MayFollow shape past (wrote side bit)
-written side bit value in_shape by_writer writes =
-    record { right_side = record { in_shape = in_shape; by_doer = by_writer }; in_turn = (value, writes); permitted = tt }
+written side bit value in_shape by_writer writes = grind arith
 
 -- the calls of the two sides
 abbrev puts : Puts
@@ -132,10 +127,7 @@ each_follows =
 -- the producer makes all of its calls, and so does the consumer
 puts_are : ArePuts one_cell 0 puts.puts
 unfolding one_cell
-puts_are = (
-  (omega arith, omega arith, record { some = omega arith; few = omega arith; fit = (omega arith, tt) }),
-  ((omega arith, λ room. omega (arith, room)), record {}),
-)
+puts_are = grind arith
 
 puts_follow : FollowsPuts one_cell events puts
 unfolding one_cell
@@ -143,13 +135,7 @@ puts_follow = record { are = puts_are; events = ([], refl) }
 
 takes_are : AreTakes one_cell 0 takes.takes takes.end
 unfolding one_cell
-takes_are = (
-  (omega arith, λ (low, high). omega (arith, low)),
-  (
-    ((omega arith, λ (low, high). omega (arith, low)), (omega arith, omega arith, omega arith), record { some = omega arith; few = omega arith; fit = (omega arith, tt) }),
-    ((omega arith, λ (low, high). omega (arith, low)), (omega arith, λ (low, high). omega (arith, low))),
-  ),
-)
+takes_are = grind arith
 
 takes_follow : FollowsTakes one_cell events takes
 unfolding one_cell
@@ -197,10 +183,7 @@ some_item none = omega (arith, ap length none)
 -- the consumer's last take returned Closed
 told : ToldIn one_cell events takes
 unfolding one_cell
-told = (record {}, all)
-  where
-    all : 28 ≤ 28
-    all = omega arith
+told = grind arith
 
 -- there is a lawful history whose two sides follow their programs, in which all of this came about
 pub has-a_run : HasARun

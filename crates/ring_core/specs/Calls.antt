@@ -28,10 +28,6 @@ pub record IsScanning (side : Side) (modulus : ℕ) (s : ScanState) : Type 0 whe
 abbrev pub IsCounted : UnaryState → ℕ → Type 0
 IsCounted row count = (due_unary row ≡ None) × (row.value ≡ count)
 
--- the same for a write that counts one item
-abbrev pub IsBeingCounted : UnaryState → ℕ → ℕ → Type 0
-IsBeingCounted row modulus count = (due_unary row ≢ None) × (row.value ≡ suc count % modulus)
-
--- the same for a write that counts m items
+-- the count's write of m more items is under way
 abbrev pub IsBeingCountedOn : UnaryState → ℕ → ℕ → ℕ → Type 0
 IsBeingCountedOn row modulus count m = (due_unary row ≢ None) × (row.value ≡ (count + m) % modulus)

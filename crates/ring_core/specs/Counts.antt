@@ -1,11 +1,11 @@
 -- The two counts of a ring, modulo its modulus.
-use Rattle.std.specs.Prelude.{◌≡◌, ℕ, zero, suc, ◌+◌, ◌-◌, ◌%◌, ◌<◌, ◌≤◌, Bool, true, false, List, [], ◌∷◌, ◌++◌}
+use Rattle.std.specs.Prelude.{◌≡◌, ℕ, suc, ◌+◌, ◌-◌, ◌%◌, ◌<◌, ◌≤◌, Bool, true, false, List, [], ◌∷◌}
 use Rattle.bits_core.specs.declared.events.Side.{Side}
 use Rattle.bits_core.specs.declared.events.Side.TheVariants.{P, C}
 use Rattle.bits_core.specs.declared.shapes.Shape.{Shape}
 use Rattle.bits_core.specs.Shape.{batch_of, capacity_of, modulus_of, take_batch_of}
 use Rattle.bits_core.specs.Made.{Made}
-use Rattle.register_core.specs.Phrases.{RowWrite, row_bit, first_bits, bits_after, writes_in, unary_phrase}
+use Rattle.register_core.specs.Phrases.{RowWrite, row_bit, first_bits, writes_in, unary_phrase}
 
 -- a less b, modulo a number above both
 abbrev pub distance : ℕ → ℕ → ℕ → ℕ
@@ -56,19 +56,3 @@ batch_phrase shape s c items = writes_in (row_bit s) (count_bits shape c items)
 pub record IsCount (shape : Shape) (c : Count) : Type 0 where
   pub set : c.bits (c.number % modulus_of shape) ≡ true
   pub clear : (j : ℕ) → j < c.number % modulus_of shape → c.bits j ≡ false
-
--- ---- a count whose writes count one item each
-
--- the bits of a count after n unary writes, of 1, 2 and so on, modulo the modulus
-abbrev pub bits_held : Shape → ℕ → ℕ → Bool
-bits_held shape zero = first_bits
-bits_held shape (suc n) = bits_after (bits_held shape n) (unary_phrase (bits_held shape n) (suc n % modulus_of shape))
-
--- the accesses of the unary write, of a side's count after n calls that count
-abbrev pub count_phrase : Shape → Side → ℕ → List Made
-count_phrase shape s n = writes_in (row_bit s) (unary_phrase (bits_held shape n) (suc n % modulus_of shape))
-
--- the values of the first n unary writes of a count
-abbrev pub counted : Shape → ℕ → List ℕ
-counted shape zero = []
-counted shape (suc n) = counted shape n ++ suc n % modulus_of shape ∷ []

@@ -3,7 +3,7 @@
 use Rattle.std.specs.Prelude.{ℕ, suc, ◌-◌, ◌<◌, nat_eq, nat_lt, Bool, true, false, List, [], ◌∷◌, ◌++◌, length, if◌then◌else◌}
 use Rattle.queue_calls.specs.Queue.{exactly}
 use Rattle.queue_calls.specs.Calls as calls
-use Rattle.queue_calls.specs.Calls.{PutBegin, PutStored, PutFull, CloseBegin, CloseEnd, TakeBegin, TakeItems, TakeEmpty, TakeClosed}
+use Rattle.queue_calls.specs.Calls.{PutBegin, PutEnd, CloseBegin, CloseEnd, TakeBegin, TakeEnd, Passed, Lacked, Shut}
 use Rattle.bits_core.specs.declared.events.Side.{Side}
 use Rattle.bits_core.specs.declared.events.Side.TheVariants.{P, C}
 use Rattle.bits_core.specs.declared.events.Event.{Event}
@@ -18,14 +18,14 @@ use Rattle.ring_core.specs.GoingOn.{AreWanted}
 
 -- how a put ends
 abbrev pub put_answer : Put → calls.Event
-put_answer (Stored seen items) = PutStored (length items) true
-put_answer (Full seen) = PutFull
+put_answer (Stored seen items) = PutEnd (Passed (length items) true)
+put_answer (Full seen) = PutEnd Lacked
 
 -- how a take ends
 abbrev pub take_answer : Take → calls.Event
-take_answer (Item seen items) = TakeItems items true
-take_answer (ItemAfterClose seen again items) = TakeItems items true
-take_answer (Empty seen) = TakeEmpty
+take_answer (Item seen items) = TakeEnd (Passed items true)
+take_answer (ItemAfterClose seen again items) = TakeEnd (Passed items true)
+take_answer (Empty seen) = TakeEnd Lacked
 
 -- what event number i of a call of `long` events records, counted from 0: the start, the end or nothing
 abbrev pub call_told : (long : ℕ) → (begins ends : calls.Event) → ℕ → List calls.Event
@@ -48,7 +48,7 @@ put_told shape offers j c (x ∷ puts) closes i =
 -- its number
 abbrev pub take_told : Shape → (ℕ → ℕ) → ℕ → Count → List Take → End → ℕ → List calls.Event
 take_told shape wants j c [] Open i = []
-take_told shape wants j c [] (Closed seen again) i = told_or_behind (events_in (end_phrase (Closed seen again))) (TakeBegin (wants j)) TakeClosed i []
+take_told shape wants j c [] (Closed seen again) i = told_or_behind (events_in (end_phrase (Closed seen again))) (TakeBegin (wants j)) (TakeEnd Shut) i []
 take_told shape wants j c (x ∷ takes) end i =
     told_or_behind (events_in (take_phrase shape c x)) (TakeBegin (wants j)) (take_answer x) i
     (take_told shape wants (suc j) (count_after shape c x) takes end (i - events_in (take_phrase shape c x)))

@@ -1,7 +1,7 @@
 -- What one of a side's own events records of its calls, by the calls that are over before it and with it.
 use Rattle.std.specs.Prelude.{◌≡◌, ◌⊎◌, ℕ, suc, ◌<◌, true, List, [], ◌∷◌, ◌++◌, length}
 use Rattle.queue_calls.specs.Calls as calls
-use Rattle.queue_calls.specs.Calls.{PutBegin, CloseBegin, CloseEnd, TakeBegin, TakeClosed}
+use Rattle.queue_calls.specs.Calls.{PutBegin, CloseBegin, CloseEnd, TakeBegin, TakeEnd, Shut}
 use Rattle.bits_core.specs.declared.shapes.Shape.{Shape}
 use Rattle.ring_core.specs.Counts.{first_count}
 use Rattle.ring_core.specs.Items.{events_in, Tells}
@@ -66,7 +66,7 @@ TakeEnds shape i before after told =
 -- the take that returns Closed ends with it
 abbrev pub IsToldNow : Shape → Takes → (i : ℕ) → (before after : List Take) → List calls.Event → Type 0
 IsToldNow shape calls i before after told =
-    (after ≡ before) × Tells calls.end × (events_of_takes shape before < i) × (suc i ≡ events_in (take_program shape calls)) × (told ≡ TakeClosed ∷ [])
+    (after ≡ before) × Tells calls.end × (events_of_takes shape before < i) × (suc i ≡ events_in (take_program shape calls)) × (told ≡ TakeEnd Shut ∷ [])
 
 -- a take continues with it
 abbrev pub TakesGo : Shape → Takes → (i : ℕ) → (before after : List Take) → List calls.Event → Type 0

@@ -1,5 +1,5 @@
 -- The calls of a counter ring's putter, step by step, over its ends.
-use Rattle.std.proofs.Common.{◌≡◌, ◌⊎◌, inl, inr, ℕ, zero, suc, ◌+◌, ◌-◌, ◌%◌, ◌<◌, ◌≤◌, false, List, [], ◌∷◌, ◌++◌, length, take, refl, ap, sym, subst, ◌∙◌, arith}
+use Rattle.std.proofs.Common.{◌≡◌, ◌⊎◌, ℕ, zero, suc, ◌+◌, ◌-◌, ◌%◌, ◌<◌, ◌≤◌, false, List, [], ◌∷◌, ◌++◌, length, length-take-le, take, refl, ap, sym, subst, ◌∙◌, arith}
 use Rattle.std.proofs.Math.Nat.{mod-mod, mod-add-mod}
 use Rattle.bits_core.specs.declared.shapes.Shape.{Shape}
 use Rattle.bits_core.specs.declared.events.Side.{Side}
@@ -9,7 +9,7 @@ use Rattle.bits_core.specs.Shape.{capacity_of, modulus_of}
 use Rattle.bits_core.specs.Made.{Made, events_of}
 use Rattle.bits_core.proofs.Fitting.{AllFit-take}
 use Rattle.register_core.specs.ScanState.{scan_phrase, row_read_by}
-use Rattle.ring_core.specs.Counts.{Count, distance, number_past, LeavesRoom, LeavesRoomFor}
+use Rattle.ring_core.specs.Counts.{distance, number_past, LeavesRoom, LeavesRoomFor}
 use Rattle.ring_core.specs.Puts.{Put, Puts, Stored, Full, number_after, words_phrase, IsPut, IsBatch}
 use Rattle.ring_core.specs.ProducerCalls.{count_of, room_in, and_put, IsPutOf}
 use Rattle.ring_seats.specs.Ring.{RingEnd}
@@ -17,6 +17,8 @@ use Rattle.ring_seats.specs.Programs.{Follows}
 use Rattle.ring_seats.specs.Steppers.{IsSameEnd, StandsAs}
 use Rattle.ring_seats.specs.Calls.{HasPuts}
 use Rattle.ring_seats.specs.Counters.{GrowsBy, unary_over}
+use Rattle.ring_core.specs.declared.replies.BatchReply.TheVariants as several
+use Rattle.ring_ends.specs.Ends.{HasPutAll}
 use Rattle.ring_ends.specs.CounterEnds.{CountedList, PutterList, put_of, PutMade, PutKept}
 use Rattle.ring_seats.proofs.CounterPuts.{length-first, first_all, past_is, words_same, can_scan, full_is, can_store, can_count, stored_is}
 use Rattle.ring_seats.proofs.CounterSteps.{same_shape, same_end, stands_as}
@@ -28,8 +30,7 @@ leaves : (size far most : ℕ) → 0 < most → most ≤ size - far → far + mo
 leaves size far most lt le = omega (arith, lt, le)
 
 none_left : (size far n : ℕ) → 1 ≤ n → (0 ≡ n) ⊎ (0 ≡ size - far) → far < size → ⊥
-none_left size far n some (inl e) lt = omega (arith, some, e)
-none_left size far n some (inr e) lt = omega (arith, e, lt)
+none_left size far n h1 h2 h3 = grind arith
 
 -- this many of the items fit the room that was seen: all of them, or as many as there is room for
 pub record Fitting (shape : Shape) (count seen : ℕ) (items : List ℕ) (most : ℕ) : Type 0 where
@@ -39,19 +40,15 @@ pub record Fitting (shape : Shape) (count seen : ℕ) (items : List ℕ) (most :
 
 -- they are the first for which there is room
 fitting_are : (n room : ℕ) (items : List ℕ) → n ≤ room → (n ≡ length items) ⊎ (n ≡ room) → take n items ≡ take room items
-fitting_are n room items le (inl e) = first_all n items (omega (arith, e)) ∙ sym (first_all room items (omega (arith, e, le)))
-fitting_are n room items le (inr e) = ap (λ (k : ℕ). take k items) e
+fitting_are n room items h1 h2 = grind (arith, first_all)
 
 number_of : (most seen n : ℕ) (items : List ℕ) → most ≤ length items → number_after n (put_of most seen items) ≡ n + most
-number_of zero seen n items le = omega arith
-number_of (suc m) seen n items le = past_is n (take (suc m) items) ∙ ap (λ (k : ℕ). n + k) (length-first (suc m) items le)
+number_of most seen n items h1 = grind (arith, length-first, past_is)
 
 -- the number of items after the put
 number_now : (shape other : Shape) → other ≡ shape → (list : List Event) (calls : Puts) → HasPuts shape list calls → calls.closes ≡ false → (most seen : ℕ) (items : List ℕ) → most ≤ length items
     → IsPut shape (count_of shape calls).number (put_of most seen items) → (count_of other (and_put calls (put_of most seen items))).number ≡ (count_of other calls).number + most
-number_now shape other e list calls has opened most seen items le is =
-    subst (λ (s : Shape). (count_of s (and_put calls (put_of most seen items))).number ≡ (count_of s calls).number + most) (sym e)
-    (ap (λ (c : Count). c.number) (programs_by_one_call_puts shape calls (put_of most seen items) has.are opened is).count_is ∙ number_of most seen (count_of shape calls).number items le)
+number_now shape other e list calls has opened most seen items le is = grind (arith, number_of, programs_by_one_call_puts)
 
 module _ (a : RingEnd) (count cell : ℕ) (items : List ℕ) (calls : Puts) (p : PutterList a count cell calls) (opened : calls.closes ≡ false) (batch : IsBatch a.ring.shape items) where
   pub to_scan : (c : ℕ) → c < modulus_of a.ring.shape → Follows a.ring.shape a.side (a.list ++ events_of a.side (scan_phrase (row_read_by a.side) c))
@@ -114,9 +111,7 @@ module _ (a : RingEnd) (count cell : ℕ) (items : List ℕ) (calls : Puts) (p :
         at2 = g2.list ∙ ((λ i. b.list ++ events_of ((g.same.side ∙ p.side_is) i) (words_phrase (same_shape a b g.same i) cell stored)) ∙ ap (λ (l : List Made). b.list ++ events_of P l) words_are)
 
         next_is : next ≡ number_past n_of stored % modulus_of a.ring.shape
-        next_is =
-            is ∙ (ap (λ (n : ℕ). (n + most) % modulus_of a.ring.shape) p.count_is ∙
-            (mod-add-mod n_of (modulus_of a.ring.shape) most ∙ ap (λ (n : ℕ). n % modulus_of a.ring.shape) (sym (past_is n_of stored ∙ ap (λ (k : ℕ). n_of + k) long))))
+        next_is = grind (arith, long, mod-add-mod, past_is)
 
         both : IsSameEnd a b2
         both = same_end a b b2 g.same g2.same
@@ -131,8 +126,7 @@ module _ (a : RingEnd) (count cell : ℕ) (items : List ℕ) (calls : Puts) (p :
             (stored_is a.ring.shape a.list calls p.has opened seen stored is_put b.list b2.list at1 at2 next next_is)
 
         put_is_of : (b3 : RingEnd) → IsSameEnd a b3 → IsPutOf b3.ring.shape (count_of b3.ring.shape calls).number items (Stored seen stored)
-        put_is_of b3 same = subst (λ (s : Shape). IsPutOf s (count_of s calls).number items (Stored seen stored)) (sym (same_shape a b3 same))
-            (subst (λ (n : ℕ). stored ≡ take (room_in a.ring.shape n seen) items) p.count_is (fitting_are most (room_in a.ring.shape count seen) items fit.room fit.all))
+        put_is_of b3 same = grind (arith, fitting_are, same_shape)
 
         pub stored_put : (b3 : RingEnd) → GrowsBy b2 b3 (unary_over b2.side b2.list next) → PutMade a b3 calls items most
         stored_put b3 g3 =
@@ -156,28 +150,14 @@ module _ (a : RingEnd) (count cell : ℕ) (items : List ℕ) (calls : Puts) (p :
 
 -- nothing more is counted
 pub stands_still : (n k size : ℕ) → n ≡ k % size → n ≡ (n + 0) % size
-stands_still n k size is = is ∙ (sym (mod-mod k size) ∙ (ap (λ (j : ℕ). j % size) (sym is) ∙ ap (λ (j : ℕ). j % size) plus))
-  where
-    plus : n ≡ n + 0
-    plus = omega arith
+stands_still n k size is = grind arith
 
 -- this many more items are counted
 pub counted_on :
     (x : Side) (Has Has' : Shape → List Event → Type 0) (number number' : Shape → ℕ) (a b : RingEnd) (count cell more : ℕ) → CountedList x Has number a count cell → IsSameEnd a b → StandsAs x b →
     Has' b.ring.shape b.list → number' b.ring.shape ≡ number b.ring.shape + more → (next next' : ℕ) → next ≡ (count + more) % modulus_of a.ring.shape → next' ≡ (cell + more) % capacity_of a.ring.shape →
     CountedList x Has' number' b next next'
-counted_on x Has Has' number number' a b count cell more p same stands has counts next next' is is' = record {
-  side_is = same.side ∙ p.side_is;
-  stands = stands;
-  has = has;
-  count_is = at_size (λ s. modulus_of s) next count is p.count_is;
-  cell_is = at_size (λ s. capacity_of s) next' cell is' p.cell_is;
-}
-  where
-    at_size : (size : Shape → ℕ) (new old : ℕ) → new ≡ (old + more) % size a.ring.shape → old ≡ number a.ring.shape % size a.ring.shape → new ≡ number' b.ring.shape % size b.ring.shape
-    at_size size new old e was =
-        e ∙ (ap (λ (k : ℕ). (k + more) % size a.ring.shape) was ∙ (mod-add-mod (number a.ring.shape) (size a.ring.shape) more ∙
-        (ap (λ (s : Shape). (number s + more) % size s) (sym (same_shape a b same)) ∙ ap (λ (k : ℕ). k % size b.ring.shape) (sym counts))))
+counted_on x Has Has' number number' a b count cell more p same stands has counts next next' is is' = grind (arith, mod-add-mod, same_shape)
 
 pub kept : (a b : RingEnd) (count cell : ℕ) (items : List ℕ) (calls : Puts) (most : ℕ) → PutterList a count cell calls → PutMade a b calls items most → (next next' : ℕ)
     → next ≡ (count + most) % modulus_of a.ring.shape → next' ≡ (cell + most) % capacity_of a.ring.shape → PutKept a b next next' calls items most
@@ -191,3 +171,8 @@ kept a b count cell items calls most p m next next' is is' =
 -- the same, for a put that found the ring full
 pub kept_full : (a b : RingEnd) (count cell : ℕ) (items : List ℕ) (calls : Puts) → PutterList a count cell calls → PutMade a b calls items 0 → PutKept a b count cell calls items 0
 kept_full a b count cell items calls p m = kept a b count cell items calls 0 p m count cell (stands_still count (count_of a.ring.shape calls).number (modulus_of a.ring.shape) p.count_is) (stands_still cell (count_of a.ring.shape calls).number (capacity_of a.ring.shape) p.cell_is)
+
+-- what was stored is the call's phrase
+pub stored_phrase : (a b : RingEnd) (count cell : ℕ) (items : List ℕ) (calls : Puts) (most : ℕ) → HasPuts a.ring.shape a.list calls → calls.closes ≡ false → PutKept a b count cell calls items most → (most ≡ 0 → ⊥)
+    → HasPutAll b.ring.shape items a.list b.list (several.Stored most)
+stored_phrase a b count cell items calls most h1 h2 h3 h4 = grind (arith, length-take-le, same_shape)

@@ -1,11 +1,9 @@
 -- The ends of a counter ring that have made no call, and those between calls.
-use Rattle.std.proofs.Common.{◌≡◌, ℕ, Bool, false, List, [], refl, ap, sym, subst, ◌∙◌}
-use Rattle.std.proofs.Math.Nat.{zero-mod}
+use Rattle.std.proofs.Common.{arith, ◌≡◌, ℕ, Bool, false, List, [], refl, ap, ◌∙◌}
 use Rattle.bits_core.specs.declared.events.Side.{Side}
 use Rattle.bits_core.specs.declared.events.Side.TheVariants.{P, C}
 use Rattle.bits_core.specs.declared.events.Event.{Event}
 use Rattle.bits_core.specs.declared.shapes.Shape.{Shape}
-use Rattle.bits_core.specs.Shape.{capacity_of, modulus_of}
 use Rattle.bits_core.specs.History.{open_access}
 use Rattle.bits_core.proofs.LawLemmas.{made_leave_none_open}
 use Rattle.ring_core.specs.Puts.{put_program}
@@ -21,13 +19,7 @@ use Rattle.ring_ends.specs.CounterEnds.{CountedList, IsPutterList, IsTakerList}
 new_list :
     (x : Side) (Has : Shape → List Event → Type 0) (e : RingEnd) → e.side ≡ x → e.list ≡ [] → StandsAs x e → Has e.ring.shape [] →
     CountedList x Has (λ (_ : Shape). 0) e 0 0
-new_list x Has e side none stands has = record {
-  side_is = side;
-  stands = stands;
-  has = subst (λ (l : List Event). Has e.ring.shape l) (sym none) has;
-  count_is = sym (zero-mod (modulus_of e.ring.shape));
-  cell_is = sym (zero-mod (capacity_of e.ring.shape));
-}
+new_list x Has e side none stands has = grind arith
 
 pub new_putter : (e : RingEnd) → e.side ≡ P → e.list ≡ [] → StandsAs P e → IsPutterList e 0 0 false
 new_putter e side none stands =

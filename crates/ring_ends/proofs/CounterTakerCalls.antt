@@ -1,5 +1,5 @@
 -- The calls of a counter ring's taker, step by step, over its ends.
-use Rattle.std.proofs.Common.{◌≡◌, ◌⊎◌, inl, inr, ℕ, ◌+◌, ◌%◌, ◌<◌, ◌≤◌, Bool, true, false, Some, List, [], ◌∷◌, ◌++◌, length, refl, ap, sym, subst, ◌∙◌, arith, append_assoc, append-nil}
+use Rattle.std.proofs.Common.{rules, ◌≡◌, ◌⊎◌, ℕ, ◌+◌, ◌%◌, ◌<◌, ◌≤◌, Bool, true, false, Some, List, [], ◌∷◌, ◌++◌, length, refl, ap, sym, subst, ◌∙◌, arith, append_assoc, append-nil}
 use Rattle.std.proofs.Math.Nat.{mod-add-mod, mod-eq_of_lt, mod-mod}
 use Rattle.std.proofs.lemmas.Nat.{mod_below}
 use Rattle.bits_core.specs.declared.shapes.Shape.{Shape}
@@ -13,10 +13,10 @@ use Rattle.register_core.specs.Word.{word_read}
 use Rattle.register_core.specs.ScanState.{scan_phrase, row_read_by}
 use Rattle.ring_core.specs.declared.replies.TakeReply.{TakeReply}
 use Rattle.ring_core.specs.declared.replies.TakeReply.TheVariants as reply
-use Rattle.ring_core.specs.Counts.{distance, ShowsItem, Count, number_past}
+use Rattle.ring_core.specs.Counts.{distance, ShowsItem, number_past}
 use Rattle.ring_core.specs.Takes.{Take, Takes, Empty, Open, taken_after, words_read, SeesItems, SeesNone, IsTakeBatch, IsTake}
 use Rattle.ring_core.specs.Items.{taken_of}
-use Rattle.ring_core.specs.ConsumerCalls.{Finding, Once, Twice, Finds, finding_phrase, count_taken, and_take, and_end, items_reply, take_reply_to, HasTakeMore, IsTakeOf, TakesAll}
+use Rattle.ring_core.specs.ConsumerCalls.{Finding, Once, Twice, Finds, finding_phrase, count_taken, and_take, and_end, items_reply, take_reply_to, IsTakeOf, TakesAll}
 use Rattle.ring_ends.specs.declared.counter_calls.Scanned.TheVariants.{Shows, Over}
 use Rattle.ring_seats.specs.Ring.{RingEnd}
 use Rattle.ring_seats.specs.Programs.{Follows}
@@ -43,35 +43,12 @@ made_take :
     IsTakeOf a.ring.shape (count_taken a.ring.shape calls).number wanted x → take_reply_to x ≡ r → taken_of x ≡ items → closed_reply (Some r) ≡ false →
     taken_after (count_taken a.ring.shape calls).number x ≡ (count_taken a.ring.shape calls).number + length items → HasTakes a.ring.shape b.list (and_take calls x) →
     TakeMade a b calls wanted r items
-made_take a b count cell calls p opened same stands wanted x r items is of answered brings open_still number has =
-    let m = take_more a.ring.shape a.list calls p.has opened x is in
-    let there : a.ring.shape ≡ b.ring.shape = sym (same_shape a b same) in
-    record {
-      same = same;
-      stands = stands;
-      more = and_take calls x;
-      is_more = subst (λ (s : Shape). HasTakeMore s wanted calls (and_take calls x)) there (record { is_one_more = inl (x, of, refl); are = m.are; not_over = opened });
-      replied = ap (λ (t : TakeReply). Some t) (sym answered) ∙ sym m.reply_is;
-      brought = sym brings ∙ sym m.items_are;
-      has = subst (λ (s : Shape). HasTakes s b.list (and_take calls x)) there has;
-      number = subst (λ (s : Shape). CountsMore s calls (and_take calls x) (length items)) there (ap (λ (c : Count). c.number) m.count_is ∙ number);
-      told = open_still;
-    }
+made_take a b count cell calls p opened same stands wanted x r items is of answered brings open_still number has = grind (arith, (same_shape a b same), (take_more a.ring.shape a.list calls p.has opened x is), a.list, a.ring.shape, b.list, b.ring.shape, p.has)
 
 made_end :
     (a b : RingEnd) (calls : Takes) (wanted seen again : ℕ) → calls.end ≡ Open → IsSameEnd a b → StandsAs C b → HasTakes a.ring.shape b.list (and_end calls seen again) →
     TakeMade a b calls wanted reply.Closed []
-made_end a b calls wanted seen again opened same stands has = record {
-  same = same;
-  stands = stands;
-  more = and_end calls seen again;
-  is_more = subst (λ (s : Shape). HasTakeMore s wanted calls (and_end calls seen again)) (sym (same_shape a b same)) (record { is_one_more = inr (seen, again, refl); are = has.are; not_over = opened });
-  replied = refl;
-  brought = refl;
-  has = subst (λ (s : Shape). HasTakes s b.list (and_end calls seen again)) (sym (same_shape a b same)) has;
-  number = omega arith;
-  told = refl;
-}
+made_end a b calls wanted seen again opened same stands has = grind arith
 
 -- ---- the scans
 
@@ -86,9 +63,7 @@ pub record ShownOf (shape : Shape) (seen count wanted most : ℕ) : Type 0 where
 shown_once :
     (shape : Shape) (seen count k wanted most : ℕ) → seen < modulus_of shape → count ≡ k % modulus_of shape → ShownOf shape seen count wanted most →
     SeesItems shape k seen most × TakesAll shape k wanted seen most
-shown_once shape seen count k wanted most lt is s =
-    subst (λ (n : ℕ). ((seen < modulus_of shape) × (most ≤ distance (modulus_of shape) seen n) × (distance (modulus_of shape) seen n ≤ capacity_of shape)) ×
-    ((most ≤ wanted) × ((most ≡ wanted) ⊎ (most ≡ distance (modulus_of shape) seen n)))) is ((lt, s.shown, s.shows.1), (s.few, s.all))
+shown_once shape seen count k wanted most lt is s = grind arith
 
 module _ (a : RingEnd) (count cell wanted : ℕ) (calls : Takes) (p : TakerList a count cell calls) (opened : calls.end ≡ Open) where
   abbrev k_now : ℕ
@@ -113,8 +88,7 @@ module _ (a : RingEnd) (count cell wanted : ℕ) (calls : Takes) (p : TakerList 
 
       -- after the first scan
       behind : (made : List Made) → a.list ++ events_of C (scan_phrase (row_read_by C) seen ++ made) ≡ b.list ++ events_of C made
-      behind made = ap (λ (l : List Event). a.list ++ l) (events_of-append C (scan_phrase (row_read_by C) seen) made) ∙
-          (sym (append_assoc a.list (events_of C (scan_phrase (row_read_by C) seen)) (events_of C made)) ∙ ap (λ (l : List Event). l ++ events_of C made) (sym at1))
+      behind made = grind (arith, append_assoc, at1, events_of-append)
 
       pub to_ask : (v : Bool) → Follows b.ring.shape C (b.list ++ events_of C (Read X v ∷ []))
       to_ask v = subst (λ (z : Shape × List Event). Follows z.0 C z.1) (λ i. (sym (same_shape a b g.same) i, behind (Read X v ∷ []) i)) (can_ask a.ring.shape a.list calls p.has opened seen none v)
@@ -138,9 +112,7 @@ module _ (a : RingEnd) (count cell wanted : ℕ) (calls : Takes) (p : TakerList 
 
         module _ (is : v ≡ true) where
           twice : (c : ℕ) → a.list ++ events_of C (scan_phrase (row_read_by C) seen ++ Read X true ∷ scan_phrase (row_read_by C) c) ≡ b2.list ++ events_of C (scan_phrase (row_read_by C) c)
-          twice c = behind (Read X true ∷ scan_phrase (row_read_by C) c) ∙
-              (sym (append_assoc b.list (events_of C (Read X true ∷ [])) (events_of C (scan_phrase (row_read_by C) c))) ∙
-              ap (λ (l : List Event). l ++ events_of C (scan_phrase (row_read_by C) c)) (sym (at2 ∙ ap (λ (w : Bool). b.list ++ events_of C (Read X w ∷ [])) is)))
+          twice c = grind (arith, append_assoc, at2, behind)
 
           pub to_rescan : (c : ℕ) → c < modulus_of b2.ring.shape → Follows b2.ring.shape b2.side (b2.list ++ events_of b2.side (scan_phrase (row_read_by b2.side) c))
           to_rescan c small = subst (λ (z : Shape × Side). Follows z.0 z.1 (b2.list ++ events_of z.1 (scan_phrase (row_read_by z.1) c))) (λ i. (sym (same_shape a b2 both) i, sym (both.side ∙ p.side_is) i))
@@ -172,15 +144,11 @@ module _ (a : RingEnd) (count cell wanted : ℕ) (calls : Takes) (p : TakerList 
 
 -- a take counts no more items than it asks for
 pub few_found : (shape : Shape) (k wanted most : ℕ) (look : Finding) → Finds shape k wanted look most → most ≤ wanted
-few_found shape k wanted most (Once seen) finds = finds.1.0
-few_found shape k wanted most (Twice seen again) finds = finds.2.0
+few_found shape k wanted most look h1 = grind arith
 
 -- so a take of one item finds one
 pub one_found : (a b : RingEnd) (calls : Takes) (look : Finding) (most : ℕ) → HasFound a b calls 1 look most → HasFound a b calls 1 look 1
-one_found a b calls look most f = subst (HasFound a b calls 1 look) one f
-  where
-    one : most ≡ 1
-    one = omega (arith, f.some, few_found a.ring.shape (count_taken a.ring.shape calls).number 1 most look f.finds)
+one_found a b calls look most f = grind arith
 
 module _ (a b : RingEnd) (count cell : ℕ) (calls : Takes) (wanted most : ℕ) (l : HasLooked a b count cell calls wanted most) where
   abbrev k_of : ℕ
@@ -212,11 +180,7 @@ module _ (a b : RingEnd) (count cell : ℕ) (calls : Takes) (wanted most : ℕ) 
   near = sym (mod-mod k_of (capacity_of a.ring.shape)) ∙ ap (λ (n : ℕ). n % capacity_of a.ring.shape) (sym p.cell_is)
 
   words_list : (items : List ℕ) → a.list ++ events_of C (finding_phrase l.look ++ words_read a.ring.shape k_of items) ≡ b.list ++ events_of C (words_read b.ring.shape cell items)
-  words_list items =
-      ap (λ (t : List Event). a.list ++ t) (events_of-append C (finding_phrase l.look) (words_read a.ring.shape k_of items)) ∙
-      (sym (append_assoc a.list (events_of C (finding_phrase l.look)) (events_of C (words_read a.ring.shape k_of items))) ∙
-      ((λ i. sym f.list_is i ++ events_of C (reads_same a.ring.shape items k_of cell near i)) ∙
-      ap (λ (s : Shape). b.list ++ events_of C (words_read s cell items)) (sym shape_is)))
+  words_list items = grind (arith, append_assoc, events_of-append, near, reads_same, shape_is)
 
   pub to_read : (items : List ℕ) → length items ≡ most → AllFit b.ring.shape items → Follows b.ring.shape C (b.list ++ events_of C (words_read b.ring.shape cell items))
   to_read items long fit =
@@ -235,10 +199,7 @@ module _ (a b : RingEnd) (count cell : ℕ) (calls : Takes) (wanted most : ℕ) 
     at_items = g.list ∙ (ap (λ (s : Side). b.list ++ events_of s (words_read b.ring.shape cell items)) side_now ∙ sym (words_list items))
 
     counts_on : next ≡ number_past k_of items % modulus_of a.ring.shape
-    counts_on = next_is ∙ (ap (λ (n : ℕ). (n + most) % modulus_of a.ring.shape) p.count_is ∙ (mod-add-mod k_of (modulus_of a.ring.shape) most ∙ ap (λ (n : ℕ). n % modulus_of a.ring.shape) plus))
-      where
-        plus : (count_taken a.ring.shape calls).number + most ≡ number_past (count_taken a.ring.shape calls).number items
-        plus = omega (arith, past_is (count_taken a.ring.shape calls).number items, long)
+    counts_on = grind (arith, mod-add-mod, past_is)
 
     pub to_count : Follows b2.ring.shape b2.side (b2.list ++ events_of b2.side (unary_over b2.side b2.list next))
     to_count = subst (λ (z : Shape × Side). Follows z.0 z.1 (b2.list ++ events_of z.1 (unary_over z.1 b2.list next))) (λ i. (sym (same_shape a b2 till_items) i, sym (till_items.side ∙ p.side_is) i))
@@ -281,7 +242,4 @@ kept_take a b count cell calls wanted r items p m next next' is is' = record {
 -- the same, for a take that brought nothing
 pub kept_none :
     (a b : RingEnd) (count cell : ℕ) (calls : Takes) (wanted : ℕ) (r : TakeReply) → TakerList a count cell calls → TakeMade a b calls wanted r [] → TakeKept a b count cell calls wanted r []
-kept_none a b count cell calls wanted r p m =
-    kept_take a b count cell calls wanted r [] p m count cell
-    (stands_still count (count_taken a.ring.shape calls).number (modulus_of a.ring.shape) p.count_is)
-    (stands_still cell (count_taken a.ring.shape calls).number (capacity_of a.ring.shape) p.cell_is)
+kept_none a b count cell calls wanted r p m = search (rules, kept_take, stands_still)

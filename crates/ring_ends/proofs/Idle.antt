@@ -1,11 +1,10 @@
 -- Ends between calls.
-use Rattle.std.proofs.Common.{◌≡◌, Bool, false, Option, Some, None, List, [], ◌∷◌, refl, ap, subst, ◌∙◌}
+use Rattle.std.proofs.Common.{arith, ◌≡◌, Bool, false, Option, Some, None, List, [], ◌∷◌, ap, ◌∙◌}
 use Rattle.bits_core.specs.declared.events.Event.{Event}
 use Rattle.bits_core.specs.History.{open_access}
 use Rattle.ring_core.specs.declared.replies.TakeReply.{TakeReply}
 use Rattle.ring_core.specs.Takes as takes
 use Rattle.ring_core.specs.Takes.{Take, AreTakes}
-use Rattle.ring_core.specs.Puts.{ArePuts}
 use Rattle.ring_core.specs.ProducerState.{ProducerState, call_of}
 use Rattle.ring_core.specs.ProducerCalls.{closes_with}
 use Rattle.ring_core.specs.ConsumerState.{ConsumerState, is_taking}
@@ -16,7 +15,6 @@ use Rattle.ring_ends.specs.Machines.{IsMachine, Machine, consuming, producing}
 use Rattle.ring_ends.specs.Meetings.{closed_reply, ClosesAre, TellsAre}
 use Rattle.ring_ends.specs.Moves.{MachineLaws}
 use Rattle.ring_ends.proofs.MachineCalls.{rest_list}
-use Rattle.ring_ends.proofs.PutterCalls.{put_laws}
 use Rattle.ring_ends.proofs.TakerCalls.{take_laws}
 use Rattle.bits_core.proofs.LawLemmas.{made_leave_none_open}
 
@@ -24,30 +22,17 @@ pub machine_idle : (k : Machine) → MachineLaws k → (e : RingEnd) (m : k.Stat
 machine_idle k ks e m whole i none = ap (open_access k.side) (rest_list k ks e m i.calls i.made i.at none) ∙ made_leave_none_open k.side (k.program e.ring.shape i.calls)
 
 never_closed : (x : Take) → closed_reply (Some (take_reply_to x)) ≡ false
-never_closed (takes.Item seen []) = refl
-never_closed (takes.Item seen (item ∷ items)) = refl
-never_closed (takes.ItemAfterClose seen again []) = refl
-never_closed (takes.ItemAfterClose seen again (item ∷ items)) = refl
-never_closed (takes.Empty seen) = refl
+never_closed x = grind arith
 
 last_not : (first : Option TakeReply) (xs : List Take) → closed_reply first ≡ false → closed_reply (last_take_reply first xs) ≡ false
 last_not first [] is = is
 last_not first (x ∷ xs) is = last_not (Some (take_reply_to x)) xs (never_closed x)
 
 told_at_end : (end : takes.End) (xs : List Take) → closed_reply (reply_at_end end xs) ≡ ends_closed end
-told_at_end takes.Open xs = last_not None xs refl
-told_at_end (takes.Closed seen again) xs = refl
+told_at_end end xs = grind (arith, last_not)
 
 pub tells_are : (e : RingEnd) (m : ConsumerState) (whole : List Event) → (i : IsMachine consuming e m whole) → is_taking m ≡ false → (r : Option TakeReply) → IsReplyToTake i.calls (is_taking m) r → (told : Bool) → told ≡ closed_reply r → TellsAre e.ring.shape e.list told
-tells_are e m whole i none r replied told is = record {
-  calls = i.calls;
-  list_is = record { are = subst (λ s. AreTakes s 0 i.calls.takes i.calls.end) i.at.shape_is i.at.stands.are; list_is = rest_list consuming take_laws e m i.calls i.made i.at none };
-  told_is = is ∙ ap closed_reply (subst (λ t. IsReplyToTake i.calls t r) none replied) ∙ told_at_end i.calls.end i.calls.takes;
-}
+tells_are e m whole i none r replied told is = grind (arith, rest_list, take_laws, told_at_end)
 
 pub closes_are : (e : RingEnd) (m : ProducerState) (whole : List Event) → (i : IsMachine producing e m whole) → call_of m ≡ None → (closed : Bool) → closed ≡ closes_with i.calls (call_of m) → ClosesAre e.ring.shape e.list closed
-closes_are e m whole i none closed is = record {
-  calls = i.calls;
-  list_is = record { are = subst (λ s. ArePuts s 0 i.calls.puts) i.at.shape_is i.at.stands.are; list_is = rest_list producing put_laws e m i.calls i.made i.at none };
-  closes = is ∙ ap (closes_with i.calls) none;
-}
+closes_are e m whole i none closed is = grind arith

@@ -1,11 +1,9 @@
 -- Lists of accesses that were made, and their events.
-use Rattle.std.proofs.Common.{◌≡◌, ℕ, suc, Bool, true, false, Some, List, [], ◌∷◌, ◌++◌, length, refl, ap, sym, ◌∙◌, arith, append_assoc, append-nil}
-use Rattle.std.specs.Prelude.{if◌then◌else◌}
+use Rattle.std.proofs.Common.{◌≡◌, ℕ, suc, Bool, false, Some, List, [], ◌∷◌, ◌++◌, length, ap, sym, ◌∙◌, arith, append_assoc, append-nil}
 use Rattle.std.proofs.lemmas.List.{length-append}
 use Rattle.bits_core.specs.declared.events.Side.{Side}
 use Rattle.bits_core.specs.declared.events.Side.TheVariants.{P, C}
 use Rattle.bits_core.specs.declared.events.Access.{Access}
-use Rattle.bits_core.specs.declared.events.Access.TheVariants as access
 use Rattle.bits_core.specs.declared.events.Event.{Event}
 use Rattle.bits_core.specs.declared.shapes.Shape.{Shape}
 use Rattle.bits_core.specs.Shape.{modulus_of}
@@ -28,15 +26,11 @@ pub events_begin : (s : Side) (xs ys : List Made) → IsPrefix xs ys → IsPrefi
 events_begin s xs ys b = (events_of s b.0, sym (events_of-append s xs b.0) ∙ ap (events_of s) b.1)
 
 pub begin_same : (s : Side) (a : Access) (v : Bool) → begin_event s (answered a v) ≡ begin_of s a
-begin_same s (access.Read b) v = refl
-begin_same s (access.Write b w) v = refl
+begin_same s a v = grind arith
 
 -- the events of one more access
 pub events_more : (s : Side) (made : List Made) (a : Access) (v : Bool) → events_of s (made ++ answered a v ∷ []) ≡ (events_of s made ++ begin_of s a ∷ []) ++ ending_event s a v ∷ []
-events_more s made a v =
-    events_of-append s made (answered a v ∷ []) ∙
-    (λ i. events_of s made ++ begin_same s a v i ∷ ending_event s a v ∷ []) ∙
-    sym (append_assoc (events_of s made) (begin_of s a ∷ []) (ending_event s a v ∷ []))
+events_more s made a v = grind (arith, append_assoc, begin_same, events_of-append)
 
 -- a prefix of a prefix
 pub shorter : (xs : List Event) (e : Event) (ys : List Event) → IsPrefix (xs ++ e ∷ []) ys → IsPrefix xs ys
@@ -45,12 +39,10 @@ shorter xs e ys b = (e ∷ b.0, sym (append_assoc xs (e ∷ []) b.0) ∙ b.1)
 -- ---- what is open
 
 begun_begin : (s : Side) (a : Access) → begun_by (begin_of s a) ≡ Some a
-begun_begin s (access.Read b) = refl
-begun_begin s (access.Write b v) = refl
+begun_begin s a = grind arith
 
 pub begun_open : (s : Side) (list : List Event) (a : Access) → open_access s (list ++ begin_of s a ∷ []) ≡ Some a
-begun_open s list a =
-    open_changes s list (begin_of s a) ∙ ap (λ t. if t then begun_by (begin_of s a) else open_access s list) (by_begin s (answered a true)) ∙ begun_begin s a
+begun_open s list a = grind (arith, begun_begin, by_begin, open_changes)
 
 -- ---- the last bit of a count
 

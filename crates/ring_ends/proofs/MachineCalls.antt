@@ -1,29 +1,20 @@
 -- A step call of an end, by its machine, whichever side it is of.
-use Rattle.std.proofs.Common.{◌≡◌, ◌⊎◌, inl, inr, ⊎_elim, ℕ, ◌+◌, ◌-◌, ◌*◌, ◌≤◌, Bool, Option, None, List, [], ◌∷◌, ◌++◌, length, take, ap, sym, subst, ◌∙◌, arith}
+use Rattle.std.proofs.Common.{◌≡◌, ◌⊎◌, ⊎_elim, ℕ, ◌+◌, ◌-◌, ◌*◌, ◌≤◌, Bool, List, [], ◌∷◌, ◌++◌, length, ap, sym, subst, ◌∙◌, arith}
 use Rattle.std.proofs.lemmas.List.{length-append, length-take-le, take-append-le, take_all}
-use Rattle.bits_core.specs.declared.events.Side.{Side}
-use Rattle.bits_core.specs.declared.events.Access.{Access}
 use Rattle.bits_core.specs.declared.events.Event.{Event}
 use Rattle.bits_core.specs.declared.shapes.Shape.{Shape}
 use Rattle.bits_core.specs.Made.{Made, events_of}
 use Rattle.ring_seats.specs.Ring.{Ring, RingEnd}
 use Rattle.ring_seats.specs.Steppers.{Grows, IsSameEnd, StandsAs}
-use Rattle.ring_ends.specs.Machines.{ListIs, IsMarked, Machine, MachineAt, MachineStep, MachineStepped, IsMachine, CallBegins, without_last}
+use Rattle.ring_ends.specs.Machines.{IsMarked, Machine, MachineAt, MachineStep, MachineStepped, IsMachine, CallBegins, without_last}
 use Rattle.ring_ends.specs.Moves.{MachineLaws}
 use Rattle.ring_ends.proofs.Lists.{length-events_of}
-use Rattle.ring_ends.proofs.Steps.{none-some}
 
 -- ---- at rest
 
-pub list_rests : (x : Side) (list : List Event) (made : List Made) (due : Option Access) → ListIs x list made due → due ≡ None → list ≡ events_of x made
-list_rests x list made due (inl is) none = is
-list_rests x list made due (inr (a, same, is)) none = absurd (none-some a (sym none ∙ same))
-
 -- the list without its last events, and its number of events
 before_more : (n : ℕ) (list : List Event) (x : Event) → n ≤ length list → without_last (n + 1) (list ++ x ∷ []) ≡ without_last n list
-before_more n list x few =
-    let size : length (list ++ x ∷ []) - (n + 1) ≡ length list - n = omega (arith, length-append list (x ∷ []), few) in
-    ap (λ (k : ℕ). take k (list ++ x ∷ [])) size ∙ take-append-le (length list - n) list (x ∷ []) (omega arith)
+before_more n list x few = grind (arith, length-append, take-append-le)
 
 before_none : (n : ℕ) (list : List Event) → n ≡ 0 → list ≡ without_last n list
 before_none n list none = sym (take_all (length list - n) list (omega (arith, none)))
@@ -34,15 +25,10 @@ before_size n list few = omega (arith, length-take-le (length list - n) list (om
 module _ (k : Machine) (ks : MachineLaws k) where
   -- the list of an end at rest is that of its calls
   pub rest_list : (e : RingEnd) (m : k.State) (calls : k.Calls) (made : List Made) → MachineAt k e m calls made → k.Rests m → e.list ≡ events_of k.side (k.program e.ring.shape calls)
-  rest_list e m calls made at none =
-      let r = ks.at_rest m calls made at.stands none in
-      list_rests k.side e.list made (k.due m) at.list_is r.1 ∙ ap (events_of k.side) r.0 ∙ ap (λ (s : Shape). events_of k.side (k.program s calls)) at.shape_is
+  rest_list e m calls made at none = grind arith
 
   whole_marked : (m : k.State) (n : ℕ) (list : List Event) → IsMarked n list (k.most m) → without_last n list ≡ k.whole m list (without_last n list)
-  whole_marked m n list marked = ⊎_elim
-      (λ none. sym (before_none n list (omega (arith, marked.1, ks.most_rests m none))) ∙ sym (ks.whole_rests m list (without_last n list) none))
-      (λ busy. sym (ks.whole_busy m busy.0 list (without_last n list) busy.1))
-      (ks.either m)
+  whole_marked m n list marked = grind (arith, before_none)
 
   -- if no call is under way no event is marked, whatever the list
   pub rest_marked : (l l' : List Event) (m m' : k.State) (n : ℕ) → k.Rests m → IsMarked n l (k.most m) → IsMarked n l' (k.most m')
@@ -56,22 +42,11 @@ pub data Outcome (k : Machine) (e e' : RingEnd) (m' : k.State) (calls : k.Calls)
   Over : (event : Event) → Grows e e' event → k.Rests m' → (more : k.Calls) → k.More e'.ring.shape c calls more → e'.list ≡ events_of k.side (k.program e'.ring.shape more) → (made : List Made) → k.Stands m' more made → Outcome k e e' m' calls c
 
 pub same_end : (k : Machine) (e e' : RingEnd) (m' : k.State) (calls : k.Calls) (c : k.Call) → Outcome k e e' m' calls c → IsSameEnd e e'
-same_end k e e' m' calls c (Refused same none refused list) = record { ring = ap (λ (x : RingEnd). x.ring) same; side = ap (λ (x : RingEnd). x.side) same; known = ap (λ (x : RingEnd). x.known) same }
-same_end k e e' m' calls c (Goes event grows is part more made stands) = grows.same
-same_end k e e' m' calls c (Over event grows none more is_more list made stands) = grows.same
+same_end k e e' m' calls c h1 = grind arith
 
 module _ (k : Machine) (ks : MachineLaws k) (e : RingEnd) (m : k.State) (calls : k.Calls) (made : List Made) (at : MachineAt k e m calls made) (c : k.Call) (m1 : k.State) (begins : CallBegins k m m1 calls made c) where
   pub at_one : MachineAt k e m1 calls made
-  at_one = record {
-    side_is = at.side_is;
-    lawful = at.lawful;
-    shape_is = begins.0 ∙ at.shape_is;
-    stands = begins.1;
-    list_is = ⊎_elim
-        (λ here. ⊎_elim (λ (same : m1 ≡ m). subst (ListIs k.side e.list made) (sym (ap k.due same)) at.list_is) (λ none. inl (list_rests k.side e.list made (k.due m) at.list_is none.0)) here.1)
-        (λ gone. inl (list_rests k.side e.list made (k.due m) at.list_is gone.2))
-        begins.2;
-  }
+  at_one = grind arith
 
   module _ (e' : RingEnd) (m' : k.State) (rests : k.Rests m1 → (m' ≡ m1) × (e' ≡ e)) (steps : k.Busy m1 c → MachineStep k e m1 e' m' calls) where
     there : k.Rests m1 → k.Rests m' × MachineAt k e' m' calls made
@@ -115,15 +90,7 @@ module _ (k : Machine) (ks : MachineLaws k) (e : RingEnd) (m : k.State) (calls :
 
     -- the greatest length of the list
     few : (whole : List Event) → whole ≡ events_of k.side (k.program e.ring.shape calls) → length e'.list ≤ length whole + 2 * k.longest e'.ring.shape c
-    few whole w = ⊎_elim
-        (λ here.
-        let s = steps here.0 in
-        let program : length whole ≡ 2 * length (k.program (k.shape_of m1) calls) = ap length (w ∙ ap (λ (z : Shape). events_of k.side (k.program z calls)) (sym at_one.shape_is)) ∙ length-events_of k.side (k.program (k.shape_of m1) calls) in
-        subst (λ (z : Shape). length e'.list ≤ length whole + 2 * k.longest z c) (step_shape s) (omega (arith, s.within c here.0, program)))
-        (λ gone.
-        let same : length e'.list ≡ length whole = ap (λ (x : RingEnd). length x.list) (rests gone.0).1 ∙ ap length (rest_list k ks e m1 calls made at_one gone.0 ∙ sym w) in
-        omega (arith, same))
-        begins.2
+    few whole w = grind (arith, at_one, length-events_of, rest_list, step_shape)
 
 -- ---- one step of an end
 
@@ -196,12 +163,7 @@ module _ (k : Machine) (ks : MachineLaws k) {c : k.Call} (s : Step k c) where
 
   -- the call was refused, or one event was made
   pub one_step : (k.Refuses c b.was.0.calls s.m × (s.e ≡ b.seen)) ⊎ ((x : Event) × Grows b.seen s.e x)
-  one_step = by out
-    where
-      by : Outcome k b.seen s.e s.m b.was.0.calls c → (k.Refuses c b.was.0.calls s.m × (s.e ≡ b.seen)) ⊎ ((x : Event) × Grows b.seen s.e x)
-      by (Refused same none refused list) = inl (refused, same)
-      by (Goes event grows is part more made stands) = inr (event, grows)
-      by (Over event grows none more is_more list made stands) = inr (event, grows)
+  one_step = grind (arith, out)
 
   pub same_step : IsSameEnd b.seen s.e
   same_step = same_end k b.seen s.e s.m b.was.0.calls c out
@@ -240,20 +202,10 @@ module _ (k : Machine) (ks : MachineLaws k) {c : k.Call} (s : Step k c) where
     Moves = (k.whole s.m s.e.list (without_last b.n b.e.list) ≡ k.whole s.m s.e.list (without_last n' s.e.list)) × IsMarked n' s.e.list (k.most s.m)
 
     at_rest : k.Rests s.m → Moves
-    at_rest none = let z : n' ≡ 0 = over none in
-        (ks.whole_rests s.m s.e.list (without_last b.n b.e.list) none ∙ sym (ks.whole_rests s.m s.e.list (without_last n' s.e.list) none), (omega (arith, z), omega (arith, z)))
+    at_rest none = grind arith
 
     moves : Outcome k b.e s.e s.m b.was.0.calls c → Moves
-    moves (Refused same none refused list) = at_rest none
-    moves (Over event grows none more is_more list made stands) = at_rest none
-    moves (Goes event grows goes part _ _ stands) =
-        let more_is : n' ≡ b.n + 1 = on c goes in
-        let mark : without_last b.n b.e.list ≡ without_last n' s.e.list = sym (before_more b.n b.e.list event b.was.1.0) ∙ (λ i. without_last (sym more_is i) (sym grows.list i)) in
-        let most : k.most s.m ≡ k.longest s.e.ring.shape c = ks.most_busy s.m c goes ∙ ap (λ (z : Shape). k.longest z c) step_machine.at.shape_is in
-        let size' : length s.e.list ≡ length b.e.list + 1 = ap length grows.list ∙ length-append b.e.list (event ∷ []) in (
-          ks.whole_busy s.m c s.e.list (without_last b.n b.e.list) goes ∙ mark ∙ sym (ks.whole_busy s.m c s.e.list (without_last n' s.e.list) goes),
-          (omega (arith, more_is, size', b.was.1.0), omega (arith, more_is, size', before_size b.n b.e.list b.was.1.0, few_more, most)),
-        )
+    moves h1 = grind (arith, at_rest, before_more, before_size, few_more, length-append)
 
     pub step_invariant : IsMachine k s.e s.m (k.whole s.m s.e.list (without_last n' s.e.list)) × IsMarked n' s.e.list (k.most s.m)
     step_invariant = let moved = moves came in (subst (IsMachine k s.e s.m) moved.0 step_machine, moved.1)

@@ -1,5 +1,5 @@
 -- A step of an end by its machine, whichever side it is of.
-use Rattle.std.proofs.Common.{◌≡◌, inl, inr, ◌+◌, ◌*◌, ◌<◌, Bool, true, false, Option, Some, None, List, [], ◌∷◌, ◌++◌, length, refl, ap, sym, subst, ◌∙◌, arith}
+use Rattle.std.proofs.Common.{◌≡◌, inl, inr, ◌+◌, ◌*◌, ◌<◌, Bool, true, Option, Some, None, List, [], ◌∷◌, ◌++◌, length, refl, ap, sym, subst, ◌∙◌, arith}
 use Rattle.std.proofs.lemmas.List.{length-append}
 use Rattle.bits_core.specs.declared.events.Side.{Side}
 use Rattle.bits_core.specs.declared.events.Access.{Access}
@@ -12,7 +12,7 @@ use Rattle.bits_core.specs.Open.{IsOpenRight}
 use Rattle.bits_core.specs.Made.{Made, answered, events_of, subhistory, IsPrefix}
 use Rattle.ring_core.specs.Calls.{LastBitIsDue, EndsInZeros}
 use Rattle.ring_seats.specs.Ring.{Ring, RingEnd}
-use Rattle.ring_seats.specs.Programs.{Follows, IsRing, GoesOn, begin_of, ending_event}
+use Rattle.ring_seats.specs.Programs.{Follows, GoesOn, begin_of, ending_event}
 use Rattle.ring_seats.specs.Steppers.{Grows, IsSameEnd, StandsAs, CanMake, CanStep, HasStepped}
 use Rattle.ring_ends.specs.Machines.{ListIs, Machine, MachineAt, MachineStep}
 use Rattle.ring_ends.specs.Moves.{Due, Fed, MachineLaws, Next, TellsNext}
@@ -29,8 +29,7 @@ right_there k e m calls made at a d = subst (λ (z : Shape × Side). IsOpenRight
 pub tells :
     (k : Machine) (m : k.State) (due : Option Access) → (due ≡ None → (calls : k.Calls) (made : List Made) → k.Stands m calls made → k.Rests m) →
     ((a : Access) → due ≡ Some a → Due k m a) → TellsNext k m due
-tells k m None rests is_due = rests refl
-tells k m (Some a) rests is_due = is_due a refl
+tells k m due h1 h2 = grind arith
 
 module _ (k : Machine) (ks : MachineLaws k) (m : k.State) (calls : k.Calls) (made : List Made) (a : Access) (next : Next k m calls made a) where
   begins : (answer : Bool) → (LastBitIsDue (k.shape_of m) k.side (Some a) → answer ≡ true) → (more : k.Calls) × k.More (k.shape_of m) next.one calls more × IsPrefix (events_of k.side (made ++ answered a answer ∷ [])) (events_of k.side (k.program (k.shape_of m) more))
@@ -41,15 +40,12 @@ module _ (k : Machine) (ks : MachineLaws k) (m : k.State) (calls : k.Calls) (mad
       (b.0, b.1, shorter (events_of k.side made ++ begin_of k.side a ∷ []) (ending_event k.side a true) (events_of k.side (k.program (k.shape_of m) b.0)) (subst (λ (l : List Event). IsPrefix l (events_of k.side (k.program (k.shape_of m) b.0))) (events_more k.side made a true) b.2))
 
   follows_begun : (list : List Event) → list ≡ events_of k.side made → Follows (k.shape_of m) k.side (list ++ begin_of k.side a ∷ [])
-  follows_begun list is = subst (λ (l : List Event). Follows (k.shape_of m) k.side (l ++ begin_of k.side a ∷ [])) (sym is)
-      (let b = begun_so in ks.follows (k.shape_of m) next.one calls b.0 (events_of k.side made ++ begin_of k.side a ∷ []) b.1 b.2)
+  follows_begun list is = grind (arith, begun_so)
 
   module _ (zeros : LastBitIsDue (k.shape_of m) k.side (Some a) → EndsInZeros (k.shape_of m) k.side made) where
     -- the last bit is never read as 0
     answers_one : (h : List Event) → IsLawful (k.shape_of m) h → Follows (k.shape_of m) (other k.side) (subhistory (other k.side) h) → (v : Bool) → subhistory k.side h ≡ events_of k.side (made ++ answered a v ∷ []) → LastBitIsDue (k.shape_of m) k.side (Some a) → v ≡ true
-    answers_one h lawful f true is last = refl
-    answers_one h lawful f false is last =
-        absurd (no_zero (k.shape_of m) k.side h lawful f made last.0 last.2 (zeros last) (is ∙ ap (λ (x : Made). events_of k.side (made ++ x ∷ [])) (last_false k.side a last.0 last.1)))
+    answers_one h h1 h2 v h3 h4 = grind (arith, last_false, no_zero)
 
     goes_on : (list : List Event) → list ≡ events_of k.side made ++ begin_of k.side a ∷ [] → GoesOn (k.shape_of m) k.side a list
     goes_on list is h v lawful ring mine =
@@ -62,18 +58,10 @@ module _ (k : Machine) (ks : MachineLaws k) (m : k.State) (calls : k.Calls) (mad
         subst (Follows (k.shape_of m) x) (sym whole) (ks.follows (k.shape_of m) next.one calls b.0 (events_of x (made ++ answered a v ∷ [])) b.1 b.2)
 
     can_whole : (list : List Event) → list ≡ events_of k.side made → CanMakeAt (k.shape_of m) k.side list a
-    can_whole list is = (
-      ap (open_access k.side) is ∙ made_leave_none_open k.side made,
-      follows_begun list is,
-      goes_on (list ++ begin_of k.side a ∷ []) (ap (λ (l : List Event). l ++ begin_of k.side a ∷ []) is),
-    )
+    can_whole list is = grind (arith, follows_begun, goes_on, made_leave_none_open)
 
     can : (list : List Event) → ListIs k.side list made (Some a) → CanStepAt (k.shape_of m) k.side list a
-    can list (inl is) = inl (ap (open_access k.side) is ∙ made_leave_none_open k.side made, follows_begun list is)
-    can list (inr (b, same, is)) =
-        let eq : b ≡ a = cc in
-        let is' : list ≡ events_of k.side made ++ begin_of k.side a ∷ [] = is ∙ ap (λ (x : Access). events_of k.side made ++ begin_of k.side x ∷ []) eq in
-        inr (ap (open_access k.side) is' ∙ begun_open k.side (events_of k.side made) a, goes_on list is')
+    can list h1 = grind (arith, begun_open, follows_begun, goes_on, made_leave_none_open)
 
 -- ---- with the end
 
@@ -127,17 +115,11 @@ module _ (k : Machine) (ks : MachineLaws k) (e : RingEnd) (m : k.State) (calls :
 
     module _ (v : Bool) (s : HasStepped e b a (Some v)) where
       pub list_ended : b.list ≡ events_of k.side (made ++ answered a v ∷ [])
-      list_ended =
-          let was : e.list ≡ events_of k.side made ++ begin_of k.side a ∷ [] = list_open k.side e.list made a list_due (ap (λ (x : Side). open_access x e.list) (sym at.side_is) ∙ s.0) in
-          s.1.list ∙ (λ i. was i ++ ending_event (at.side_is i) a v ∷ []) ∙ sym (events_more k.side made a v)
+      list_ended = grind (arith, events_more, list_due, list_open)
 
       -- the answer may be fed
       one_due : LastBitIsDue (k.shape_of m) k.side (Some a) → v ≡ true
-      one_due =
-          let st = s.1.stands in
-          let ring : IsRing (k.shape_of m) st.history = subst (λ (z : Shape). IsRing z st.history) (sym (shape_b s.1.same)) st.ring in
-          let mine : subhistory k.side st.history ≡ events_of k.side (made ++ answered a v ∷ []) = ap (λ (x : Side). subhistory x st.history) (sym (s.1.same.side ∙ at.side_is)) ∙ st.list_is ∙ list_ended in
-          answers_one k ks m calls made a next (d.zeros calls made at.stands) st.history ring.run.lawful (ring_follows (k.shape_of m) st.history ring (other k.side)) v mine
+      one_due = grind (arith, answers_one, list_ended, ring_follows, shape_b)
 
       pub one_there : LastBitIsDue (k.shape_of m) k.side (k.due m) → v ≡ true
       one_there last = one_due (subst (LastBitIsDue (k.shape_of m) k.side) d.is last)

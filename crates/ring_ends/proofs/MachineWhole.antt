@@ -1,5 +1,5 @@
 -- A complete call of an end, access by access, by its machine, whichever side it is of.
-use Rattle.std.proofs.Common.{append-nil, add-zero, ◌≡◌, inl, inr, ⊎_elim, ◌+◌, ◌*◌, ◌<◌, Bool, Some, None, List, [], ◌∷◌, ◌++◌, length, refl, ap, sym, subst, ◌∙◌, arith, ℕ}
+use Rattle.std.proofs.Common.{rules, append-nil, add-zero, ◌≡◌, inl, inr, ⊎_elim, ◌+◌, ◌*◌, ◌<◌, Bool, Some, None, List, [], ◌∷◌, ◌++◌, length, refl, ap, sym, subst, ◌∙◌, arith, ℕ}
 use Rattle.bits_core.specs.declared.events.Side.{Side}
 use Rattle.bits_core.specs.declared.events.Access.{Access}
 use Rattle.bits_core.specs.declared.events.Event.{Event}
@@ -8,14 +8,13 @@ use Rattle.bits_core.specs.History.{open_access}
 use Rattle.bits_core.specs.Made.{Made, answered, events_of}
 use Rattle.bits_core.specs.Open.{IsOpenRight}
 use Rattle.ring_seats.specs.Ring.{Ring, RingEnd}
-use Rattle.ring_seats.specs.Programs.{begin_of, ending_event}
-use Rattle.ring_seats.specs.Steppers.{AreAnswered, answers_in, CanMake, Grows, HasMade, HasStepped, IsSameEnd, StandsAs}
+use Rattle.ring_seats.specs.Steppers.{AreAnswered, answers_in, CanMake, HasMade, HasStepped, IsSameEnd, StandsAs}
 use Rattle.ring_ends.specs.Machines.{Machine, MachineAt, MachineReady, MachineGoes, MachineOver, MachineIn, MachineBusy, MachineWent, MachineEnded, IsMachine, IsMarked, without_last}
 use Rattle.ring_ends.specs.Moves.{Due, Fed, MachineLaws, MayFeed}
 use Rattle.ring_ends.proofs.Accesses.{longer, same}
 use Rattle.ring_ends.proofs.Lists.{begun_open, length-events_of}
 use Rattle.ring_ends.proofs.MachineMoves.{right_there, at_begun, at_ended, can_make, list_ended, moved, one_there}
-use Rattle.ring_ends.proofs.MachineCalls.{Begun, list_rests, rest_list, rest_marked, at_one}
+use Rattle.ring_ends.proofs.MachineCalls.{Begun, rest_list, rest_marked, at_one}
 use Rattle.ring_ends.proofs.Steps.{none-some}
 use Rattle.ring_seats.proofs.Answered.{answered_then}
 use Rattle.ring_seats.proofs.CounterSteps.{same_end as same_on}
@@ -35,10 +34,7 @@ module _ (k : Machine) (ks : MachineLaws k) (e : RingEnd) (m : k.State) (calls :
     at_mid = at_begun k ks e m calls g.made g.at a d h.0 begun
 
     ended : HasStepped h.0 b a (Some v)
-    ended = (
-      ap (λ (x : Side). open_access x (h.0).list) (h.1.same.side ∙ g.at.side_is) ∙ ap (open_access k.side) (h.1.list ∙ (λ i. g.list_is i ++ begin_of (g.at.side_is i) a ∷ [])) ∙ begun_open k.side (events_of k.side g.made) a,
-      subst (λ (x : Side). Grows h.0 b (ending_event x a v)) (sym h.1.same.side) h.2,
-    )
+    ended = grind (arith, begun_open)
 
     -- the answer may be fed
     pub may_feed : MayFeed k m v
@@ -104,21 +100,11 @@ module _ (k : Machine) (ks : MachineLaws k) {e0 : RingEnd} {m0 : k.State} {e : R
 
     -- while an access is due, the call under way continues
     going : (a : Access) → k.due m ≡ Some a → (c : k.Call) × k.Busy m0 c × MachineGoes k e m calls c
-    going a due = ⊎_elim
-        (λ none. absurd (none-some a (sym (ks.at_rest m0 calls (k.program (k.shape_of m0) calls) ready.at.stands none).1 ∙ ap k.due (sym (w.rests none).0) ∙ due)))
-        (λ on. ⊎_elim (λ g. (on.0, on.1, g)) (λ o. absurd (none-some a (sym (ks.at_rest m o.more o.made o.at.stands o.rests).1 ∙ due))) (w.goes calls on.0 (first on.0 on.1)))
-        (ks.either m0)
+    going a due = search (rules, first, none-some)
 
     -- the list stays below the longest of the call
     pub below : (a : Access) → Due k m a → length e.list < length e0.list + 2 * k.most m0
-    below a d =
-        let (c, is, g) = going a d.is in
-        let next = d.next calls g.made g.at.stands in
-        let same : next.one ≡ c = ks.one m next.one c next.is g.busy in
-        let shape : k.shape_of m ≡ k.shape_of m0 = g.at.shape_is ∙ ap (λ (r : Ring). r.shape) w.same.ring ∙ sym ready.at.shape_is in
-        let few : length g.made < length (k.program (k.shape_of m0) calls) + k.longest (k.shape_of m0) c =
-        subst (λ (z : Shape × k.Call). length g.made < length (k.program z.0 calls) + k.longest z.0 z.1) (λ i. (shape i, same i)) next.few in
-        omega (arith, few, ks.most_busy m0 c is, ap length g.list_is, length-events_of k.side g.made, ap length ready.list_is, length-events_of k.side (k.program (k.shape_of m0) calls))
+    below a d = grind (arith, going, length-events_of)
 
   -- if no access is due, the call is over
   pub ended_by : ((calls : k.Calls) (made : List Made) → k.Stands m calls made → k.Rests m) → MachineEnded k e0 m0 e m old now
@@ -178,13 +164,7 @@ module _ (k : Machine) (ks : MachineLaws k) {c : k.Call} (b : Begun k c) (idle :
   made_is = (ks.at_rest b.m b.was.0.calls b.was.0.made b.was.0.at.stands idle).0 ∙ ap (λ (z : Shape). k.program z b.was.0.calls) (sym b.begins.0)
 
   pub ready : (calls : k.Calls) × MachineReady k b.e b.now calls
-  ready = (
-    b.was.0.calls,
-    record {
-      at = subst (MachineAt k b.e b.now b.was.0.calls) made_is one;
-      list_is = list_rests k.side b.e.list b.was.0.made (k.due b.m) b.was.0.at.list_is (ks.at_rest b.m b.was.0.calls b.was.0.made b.was.0.at.stands idle).1 ∙ ap (events_of k.side) made_is;
-    },
-  )
+  ready = grind arith
 
 -- a call, started when none was under way, and the result of all its accesses
 pub record Whole (k : Machine) (c : k.Call) : Type 0 where
@@ -223,11 +203,7 @@ module _ (k : Machine) (ks : MachineLaws k) {c : k.Call} (w : Whole k c) where
   ending = ⊎_elim (λ here. More (w.ended.over calls ready_there c here.0)) (λ gone. let r = w.ended.rests gone.0 in Refused (r.1 ∙ b.end_is) r.0 (subst k.Rests (sym r.0) gone.0) (subst (k.Refuses c calls) (sym r.0) gone.3)) b.begins.2
 
   pub idle_after : k.Rests w.m
-  idle_after = by ending
-    where
-      by : Ended k b.seen w.e b.now w.m calls c → k.Rests w.m
-      by (More o) = o.rests
-      by (Refused same_end same_m none refused) = none
+  idle_after = grind (arith, ending)
 
   is_machine : (start : List Event) → IsMachine k w.e w.m (k.whole w.m w.e.list start)
   is_machine start = subst (IsMachine k w.e w.m) (sym (ks.whole_rests w.m w.e.list start idle_after)) (by ending)

@@ -1,5 +1,5 @@
 -- The producer's machine, and a step call of its end.
-use Rattle.std.proofs.Common.{◌≡◌, cond, ◌≢◌, ◌⊎◌, inl, inr, ⊎_elim, ℕ, ◌+◌, ◌<◌, ◌≤◌, Bool, true, false, true≢false, Option, Some, None, List, [], ◌∷◌, length, refl, ap, sym, subst, ◌∙◌, arith, mul-le-mul_right}
+use Rattle.std.proofs.Common.{rules, ◌≡◌, cond, ◌≢◌, ◌⊎◌, inl, inr, ⊎_elim, ℕ, ◌+◌, ◌<◌, ◌≤◌, Bool, true, false, true≢false, Option, Some, None, List, [], ◌∷◌, length, refl, ap, sym, subst, ◌∙◌, arith}
 use Rattle.std.specs.Prelude.{IfSome, IfNone, is_some, not}
 use Rattle.bits_core.specs.declared.events.Side.TheVariants.{P}
 use Rattle.bits_core.specs.declared.events.Access.{Access}
@@ -7,7 +7,6 @@ use Rattle.bits_core.specs.declared.events.Event.{Event}
 use Rattle.bits_core.specs.declared.shapes.Shape.{Shape}
 use Rattle.bits_core.specs.Made.{Made, events_of}
 use Rattle.bits_core.specs.Open.{IsOpenRight}
-use Rattle.bits_core.specs.Shape.{width_of}
 use Rattle.ring_core.specs.Calls.{LastBitIsDue, EndsInZeros}
 use Rattle.ring_core.specs.declared.producers.Stage.{Stage}
 use Rattle.ring_core.specs.declared.producers.Stage.TheVariants.{Idle, Scanning, Storing, Counting, Closing}
@@ -18,7 +17,7 @@ use Rattle.ring_core.specs.declared.replies.BatchReply.TheVariants as reply
 use Rattle.ring_core.specs.Puts.{IsBatch, Puts, put_program, ArePuts}
 use Rattle.ring_core.specs.ProducerState as producer
 use Rattle.ring_core.specs.ProducerState.{ProducerState, Call, Close, due_put, call_of, call_at, producer_due_at}
-use Rattle.ring_core.specs.ProducerCalls.{ProducerStands, PutGoesOn, longest_of, ProducerMadeAt, HasCallMore, IsAfterCall, IsReplyToCall, longest, put_reply_to, and_put}
+use Rattle.ring_core.specs.ProducerCalls.{ProducerStands, PutGoesOn, longest_of, ProducerMadeAt, HasCallMore, IsAfterCall, IsReplyToCall, longest, put_reply_to}
 use Rattle.ring_core.proofs.Machines.PutCalls.{reply-push as last-snoc}
 use Rattle.ring_seats.specs.Ring.{RingEnd}
 use Rattle.ring_seats.specs.Steppers.{Grows}
@@ -33,19 +32,14 @@ use Rattle.ring_ends.proofs.Steps.{none-some}
 rest_at :
     (s : Stage) (m : ProducerState) (calls : Puts) (items : List ℕ) (made : List Made) → call_at s items ≡ None → ProducerMadeAt s m calls made →
     (made ≡ put_program m.shape calls) × (producer_due_at s m ≡ None)
-rest_at Idle m calls items made is at = (at.1, refl)
-rest_at Scanning m calls items made is at = absurd (cc)
-rest_at Storing m calls items made is at = absurd (cc)
-rest_at Counting m calls items made is at = absurd (cc)
-rest_at Closing m calls items made is at = absurd (cc)
+rest_at s m calls items made h1 h2 = grind arith
 
 pub rest : (m : ProducerState) (calls : Puts) (made : List Made) → ProducerStands m calls made → call_of m ≡ None → (made ≡ put_program m.shape calls) × (due_put m ≡ None)
 rest m calls made st none = rest_at m.stage m calls m.items made none st.made_is
 
 -- the calls of one more call
 call_are : (shape : Shape) (c : Call) (calls more : Puts) → HasCallMore shape c calls more → ArePuts shape 0 more.puts
-call_are shape (producer.Put items) calls more h = h.3
-call_are shape Close calls more h = h.1
+call_are shape c calls more h1 = grind arith
 
 either_call : (o : Option Call) → (o ≡ None) ⊎ ((c : Call) × (o ≡ Some c))
 either_call None = inl refl
@@ -92,65 +86,41 @@ put_due m a due right goes_on bounded zeros = record {
   zeros = λ calls made st last. zeros calls made st (subst (LastBitIsDue m.shape P) (sym due) last);
 }
 
-pub busy_at : (m : ProducerState) (c : Call) → call_of m ≡ Some c → call_of m ≢ None
-busy_at m c is none = none-some c (sym none ∙ is)
-
 -- the number of a call's accesses is bounded
 pub few_accesses : (shape : Shape) (items : List ℕ) → IsBatch shape items → longest_of shape items ≤ 4608
-few_accesses shape [] batch = omega (arith, shape.small_modulus, shape.few_digits)
-few_accesses shape (item ∷ []) batch = omega (arith, shape.small_modulus, shape.few_digits)
-few_accesses shape (item ∷ next ∷ items) batch =
-    let few : length (item ∷ next ∷ items) ≤ 64 = omega (arith, batch.few, shape.small_batch, shape.few_cells) in
-    omega (arith, shape.small_modulus, shape.few_digits, mul-le-mul_right (width_of shape) few)
+few_accesses shape items h1 = grind arith
 
 pub few_marked : (shape : Shape) (o : Option Call) (c : Call) (n : ℕ) (list : List Event) → IsMarked n list (longest_at shape o) → (o ≡ None) ⊎ (o ≡ Some c) → longest shape c ≤ 4608 → n < 10000
-few_marked shape o c n list marked here few = ⊎_elim
-    (λ none. let most : longest_at shape o ≡ 0 = ap (longest_at shape) none in omega (arith, marked.1, most))
-    (λ is. let most : longest_at shape o ≡ longest shape c = ap (longest_at shape) is in omega (arith, marked.1, most, few))
-    here
+few_marked shape o c n list marked here few = grind arith
 
 -- ---- replies
 
 -- the reply of a put that is over
 pub over_reply : (shape : Shape) (items : List ℕ) (calls more : Puts) (r : Option replies.BatchReply) → (is_more : HasCallMore shape (producer.Put items) calls more) → IsReplyToCall more None r → r ≡ Some (put_reply_to is_more.0)
-over_reply shape items calls more r is_more reply_is =
-    let has : IsReplyToCall (and_put calls is_more.0) None r = subst (λ (z : Puts). IsReplyToCall z None r) is_more.2 reply_is in
-    has ∙ last-snoc None calls.puts is_more.0
+over_reply shape items calls more r is_more reply_is = grind (arith, last-snoc)
 
 -- what a put that is over adds
 pub over_adds : (shape : Shape) (items : List ℕ) (calls more : Puts) (is_more : HasCallMore shape (producer.Put items) calls more) (whole list : List Event) → list ≡ events_of P (put_program shape more) → (x : replies.BatchReply) → IsReplyToCall more None (Some x) → PutAdds calls.closes shape calls items x whole list
-over_adds shape items calls more is_more whole list list_is x replied =
-    let answer : Some x ≡ Some (put_reply_to is_more.0) = over_reply shape items calls more (Some x) is_more replied in
-    let has : HasPuts shape list more = record { are = is_more.3; list_is = list_is } in
-    subst (λ (t : Bool). PutAdds t shape calls items x whole list) (sym is_more.4) (is_more.0, is_more.1, cc, subst (HasPuts shape list) is_more.2 has)
+over_adds shape items calls more is_more whole list list_is x replied = grind (arith, (over_reply shape items calls more (Some x) is_more replied), is_more.0, is_more.1, is_more.2, is_more.3, is_more.4)
 
 -- what a close that is over adds
 pub over_closes : (shape : Shape) (calls more : Puts) (is_more : HasCallMore shape Close calls more) (whole list : List Event) → list ≡ events_of P (put_program shape more) → CloseAdds calls.closes shape calls whole list
-over_closes shape calls more is_more whole list list_is =
-    let has : HasPuts shape list more = record { are = is_more.1; list_is = list_is } in
-    subst (λ (t : Bool). CloseAdds t shape calls whole list) (sym is_more.2) (subst (HasPuts shape list) is_more.0 has)
+over_closes shape calls more is_more whole list list_is = grind arith
 
 -- ---- the replies of the two kinds of put
 
 with_kind : {b : Bool} (k : Bool) (o : Option replies.BatchReply) (A B D : Type 0) → b ≡ k → IfNone o (A × B × D) → IfNone o (A × (b ≡ k) × B × D)
-with_kind k None A B D is h = (h.0, is, h.1, h.2)
-with_kind k (Some x) A B D is h = tt
+with_kind k o A B D h1 h2 = grind arith
 
 none_item : (o : Option replies.BatchReply) (A : Type 0) → IfNone o A → IfNone (producer.item_reply o) A
-none_item None A h = h
-none_item (Some (reply.Stored m)) A h = tt
-none_item (Some reply.Full) A h = tt
-none_item (Some reply.Closed) A h = tt
+none_item o A h1 = grind arith
 
 -- a put of one item, by the answer to a put of items
 abbrev AnswersItem : (replies.BatchReply → Type 0) → items_replies.PutReply → Type 0
 AnswersItem F x = (a : replies.BatchReply) × (Some x ≡ producer.item_reply (Some a)) × F a
 
 some_item : (o : Option replies.BatchReply) (N : Type 0) (F : replies.BatchReply → Type 0) → IfSome o (λ a. N × F a) → IfSome (producer.item_reply o) (λ x. N × AnswersItem F x)
-some_item None N F h = tt
-some_item (Some (reply.Stored m)) N F h = (h.0, (reply.Stored m, refl, h.1))
-some_item (Some reply.Full) N F h = (h.0, (reply.Full, refl, h.1))
-some_item (Some reply.Closed) N F h = (h.0, (reply.Closed, refl, h.1))
+some_item o N F h1 = grind arith
 
 -- ---- the model of the end
 
@@ -267,17 +237,13 @@ module _ (s : Step producing Close) (r : Bool) (over_is : (call_of s.m ≡ None 
   CloseOf = Outcome producing s.begun.seen s.e s.m (calls s) Close
 
   one_close : CloseOf → ((r ≡ true) × (s.e ≡ s.begun.seen)) ⊎ ((x : Event) × Grows s.begun.seen s.e x)
-  one_close (Refused same rests refused list) = inl (over_is.0 rests, same)
-  one_close (Goes event grows is part more made stands) = inr (event, grows)
-  one_close (Over event grows rests more is_more list made stands) = inr (event, grows)
+  one_close h1 = search rules
 
   pub close_one : ((r ≡ true) × (s.e ≡ s.begun.seen)) ⊎ ((x : Event) × Grows s.begun.seen s.e x)
   close_one = one_close (out producing put_laws s)
 
   over_close : CloseOf → r ≡ true → (call_of s.m ≡ None) × HasClosed s.e.ring.shape (whole s) s.e.list
-  over_close (Refused same rests refused list) on = (rests, record { calls = calls s; before_is = before_is s; adds = subst (λ (t : Bool). CloseAdds t s.e.ring.shape (calls s) (whole s) s.e.list) (sym refused.0) (list ∙ sym (whole_there producing put_laws s)) })
-  over_close (Goes event grows same part more made stands) on = absurd (true≢false (sym on ∙ over_is.1 (busy_at s.m Close same)))
-  over_close (Over event grows rests more is_more list made stands) on = (rests, record { calls = calls s; before_is = before_is s; adds = over_closes s.e.ring.shape (calls s) more is_more (whole s) s.e.list list })
+  over_close h1 h2 = grind arith
 
   pub close_over : r ≡ true → (call_of s.m ≡ None) × HasClosed s.e.ring.shape (whole s) s.e.list
   close_over = over_close (out producing put_laws s)
@@ -295,7 +261,4 @@ module _ (s : Step producing Close) (r : Bool) (over_is : (call_of s.m ≡ None 
 pub is_over :
     (m : ProducerState) (puts : Puts) (made : List Made) → ProducerStands m puts made → (due : Option Access) → due ≡ due_put m → (due ≡ None → call_of m ≡ None) → (r : Bool) → is_some due ≡ not r →
     (call_of m ≡ None → r ≡ true) × (call_of m ≢ None → r ≡ false)
-is_over m puts made st None due rests true is = (λ none. refl, λ busy. absurd (busy (rests refl)))
-is_over m puts made st None due rests false is = absurd (true≢false (sym is))
-is_over m puts made st (Some a) due rests true is = absurd (true≢false is)
-is_over m puts made st (Some a) due rests false is = (λ none. absurd (none-some a (sym (rest m puts made st none).1 ∙ sym due)), λ busy. refl)
+is_over m puts made h1 due h2 h3 r h4 = grind arith

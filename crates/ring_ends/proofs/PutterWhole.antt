@@ -1,5 +1,5 @@
 -- A complete call of the producer's end, access by access.
-use Rattle.std.proofs.Common.{IsSome, ◌≡◌, cond, ℕ, Bool, true, false, Option, Some, None, List, refl, ap, sym, subst, ◌∙◌}
+use Rattle.std.proofs.Common.{arith, IsSome, ◌≡◌, cond, ℕ, Bool, true, false, Option, Some, None, List, refl, ap, sym, subst, ◌∙◌}
 use Rattle.bits_core.specs.declared.shapes.Shape.{Shape}
 use Rattle.ring_core.specs.declared.replies.PutReply as items_replies
 use Rattle.ring_core.specs.declared.replies.BatchReply as replies
@@ -58,9 +58,7 @@ pub item_told : (m : ProducerState) (F : replies.BatchReply → Type 0) → ((x 
 item_told m F (x, is, h) kind r r_is = (x, r_is ∙ ap (λ (b : Bool). cond b None (producer.item_reply m.reply)) kind ∙ ap producer.item_reply is, h)
 
 pub some_item : (x : replies.BatchReply) → IsSome (producer.item_reply (Some x))
-some_item (reply.Stored n) = refl
-some_item reply.Full = refl
-some_item reply.Closed = refl
+some_item x = grind arith
 
 pub told_so : {R : Type 0} (F : R → Type 0) (r : Option R) → ((x : R) × (r ≡ Some x) × F x) → (y : R) → r ≡ Some y → F y
 told_so F r (x, is, h) y known_by_taker = let same : Some x ≡ Some y = sym is ∙ known_by_taker in let e : x ≡ y = cc in subst F e h

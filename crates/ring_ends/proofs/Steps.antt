@@ -1,7 +1,6 @@
 -- The list of an end together with the accesses of its machine.
-use Rattle.std.proofs.Common.{◌≡◌, ◌⊎◌, inl, inr, ℕ, Bool, true, false, Option, Some, None, List, [], ◌∷◌, ◌++◌, refl, ap, sym, ◌∙◌}
+use Rattle.std.proofs.Common.{arith, ◌≡◌, ◌⊎◌, ℕ, Bool, true, false, Option, Some, None, List, [], ◌∷◌, ◌++◌, ap}
 use Rattle.bits_core.specs.declared.events.Side.{Side}
-use Rattle.bits_core.specs.declared.events.Side.TheVariants.{P, C}
 use Rattle.bits_core.specs.declared.events.Access.{Access}
 use Rattle.bits_core.specs.declared.events.Access.TheVariants as access
 use Rattle.bits_core.specs.declared.events.Event.{Event}
@@ -12,7 +11,7 @@ use Rattle.bits_core.specs.Made.{Made, Read, answered, events_of}
 use Rattle.register_core.specs.ScanState.{row_read_by}
 use Rattle.ring_seats.specs.Programs.{Follows, GoesOn, begin_of, ending_event}
 use Rattle.ring_ends.specs.Machines.{ListIs}
-use Rattle.ring_ends.proofs.Lists.{same_side-same, begun_open}
+use Rattle.ring_ends.proofs.Lists.{begun_open}
 use Rattle.bits_core.proofs.LawLemmas.{made_leave_none_open}
 
 -- the access can start, or it is open and can end
@@ -26,14 +25,10 @@ abbrev pub CanMakeAt : Shape → Side → List Event → Access → Type 0
 CanMakeAt shape x list a = (open_access x list ≡ None) × Follows shape x (list ++ begin_of x a ∷ []) × GoesOn shape x a (list ++ begin_of x a ∷ [])
 
 pub by_end : (x : Side) (a : Access) (v : Bool) → is_by x (ending_event x a v) ≡ true
-by_end x (access.Read b) v = same_side-same x
-by_end x (access.Write b w) v = same_side-same x
+by_end x a v = grind arith
 
 pub not_by_end : (x : Side) (a : Access) (v : Bool) → is_by (other x) (ending_event x a v) ≡ false
-not_by_end P (access.Read b) v = refl
-not_by_end P (access.Write b w) v = refl
-not_by_end C (access.Read b) v = refl
-not_by_end C (access.Write b w) v = refl
+not_by_end x a v = grind arith
 
 -- a read of the last bit that returns 0
 pub last_false : (x : Side) (a : Access) (i : ℕ) → Some a ≡ Some (access.Read (row_read_by x i)) → answered a false ≡ Read (row_read_by x i) false
@@ -43,9 +38,7 @@ pub none-some : {A : Type 0} (a : A) → None ≡ Some a → ⊥
 none-some a e = cc
 
 pub list_closed : (x : Side) (list : List Event) (made : List Made) (due : Option Access) → ListIs x list made due → open_access x list ≡ None → list ≡ events_of x made
-list_closed x list made due (inl is) none = is
-list_closed x list made due (inr (b, same, is)) none = absurd (none-some b (sym none ∙ ap (open_access x) is ∙ begun_open x (events_of x made) b))
+list_closed x list made due h1 h2 = grind (arith, begun_open, none-some)
 
 pub list_open : (x : Side) (list : List Event) (made : List Made) (a : Access) → ListIs x list made (Some a) → open_access x list ≡ Some a → list ≡ events_of x made ++ begin_of x a ∷ []
-list_open x list made a (inl is) some = absurd (none-some a (sym (made_leave_none_open x made) ∙ sym (ap (open_access x) is) ∙ some))
-list_open x list made a (inr (b, same, is)) some = let eq : b ≡ a = cc in is ∙ ap (λ (y : Access). events_of x made ++ begin_of x y ∷ []) eq
+list_open x list made a h1 h2 = grind (arith, made_leave_none_open, none-some)

@@ -1,25 +1,22 @@
 -- The consumer's machine, and a step call of its end.
-use Rattle.std.proofs.Common.{◌≡◌, ◌⊎◌, inl, inr, ⊎_elim, ℕ, zero, suc, ◌+◌, ◌<◌, ◌≤◌, Bool, true, false, true≢false, Option, Some, None, List, [], ◌∷◌, ◌++◌, length, refl, ap, sym, subst, ◌∙◌, arith}
-use Rattle.std.proofs.Math.Nat.{mul-le-mul_right}
-use Rattle.std.proofs.lemmas.Bool.{cases_Bool}
+use Rattle.std.proofs.Common.{◌≡◌, ◌⊎◌, inl, inr, ⊎_elim, ℕ, ◌+◌, ◌<◌, ◌≤◌, Bool, true, false, Option, Some, None, List, [], ◌∷◌, ◌++◌, length, refl, ap, sym, subst, ◌∙◌, arith}
 use Rattle.std.specs.Prelude.{IfSome, IfNone}
 use Rattle.bits_core.specs.declared.events.Side.TheVariants.{C}
 use Rattle.bits_core.specs.declared.events.Access.{Access}
 use Rattle.bits_core.specs.declared.events.Event.{Event}
 use Rattle.bits_core.specs.declared.shapes.Shape.{Shape}
-use Rattle.bits_core.specs.Shape.{take_batch_of, width_of}
+use Rattle.bits_core.specs.Shape.{take_batch_of}
 use Rattle.bits_core.specs.Made.{Made, answered, events_of}
 use Rattle.bits_core.specs.Open.{IsOpenRight}
 use Rattle.ring_core.specs.Calls.{LastBitIsDue, EndsInZeros}
 use Rattle.ring_core.specs.declared.consumers.Stage.{Stage}
-use Rattle.ring_core.specs.declared.consumers.Stage.TheVariants.{Idle, Scanning, Checking, Rescanning, Loading, Counting}
 use Rattle.ring_core.specs.declared.replies.TakeReply as replies
 use Rattle.ring_core.specs.declared.replies.TakeReply.TheVariants as reply
 use Rattle.ring_core.specs.Lengths.{longest_taking}
 use Rattle.ring_core.specs.Takes.{Takes, take_program, AreTakes}
 use Rattle.ring_core.specs.ConsumerState.{due_take, ConsumerState, is_taking, takes_at, consumer_due_at}
-use Rattle.ring_core.specs.ConsumerCalls.{ConsumerHasMoved, ConsumerStands, ConsumerMadeAt, TakeGoesOn, HasTakeMore, IsAfterTake, IsReplyToTake, reply_at_end, take_reply_to, ends_closed}
-use Rattle.ring_core.proofs.Machines.TakeCalls.{due_at-takes, reply-push as last-snoc}
+use Rattle.ring_core.specs.ConsumerCalls.{ConsumerHasMoved, ConsumerStands, ConsumerMadeAt, TakeGoesOn, HasTakeMore, reply_at_end, take_reply_to, ends_closed}
+use Rattle.ring_core.proofs.Machines.TakeCalls.{reply-push as last-snoc}
 use Rattle.ring_seats.specs.Ring.{RingEnd}
 use Rattle.ring_seats.specs.Steppers.{Grows}
 use Rattle.ring_ends.specs.Ends.{HasTakes, HasTakenOf, HasTakePart, TakeAdds, TakerState, wants_next, whole_take, takes_whole}
@@ -31,39 +28,10 @@ use Rattle.ring_ends.proofs.Steps.{none-some}
 -- ---- the machine
 
 rest_at : (s : Stage) (m : ConsumerState) (calls : Takes) (made : List Made) → takes_at s ≡ false → ConsumerMadeAt s m calls made → (made ≡ take_program m.shape calls) × (consumer_due_at s m ≡ None)
-rest_at Idle m calls made is at = (at.1, refl)
-rest_at Scanning m calls made is at = absurd (true≢false is)
-rest_at Checking m calls made is at = absurd (true≢false is)
-rest_at Rescanning m calls made is at = absurd (true≢false is)
-rest_at Loading m calls made is at = absurd (true≢false is)
-rest_at Counting m calls made is at = absurd (true≢false is)
-
--- the state of a take after one more access, as the machine's states give it
-after_so :
-    (shape : Shape) (wanted : ℕ) (a b c d : Bool) (calls more : Takes) → a ≡ c → b ≡ d → IsAfterTake shape wanted a b calls more → IsAfterTake shape wanted c d calls more
-after_so shape wanted a b c d calls more e f after = subst (λ (z : Bool × Bool). IsAfterTake shape wanted z.0 z.1 calls more) (λ i. (e i, f i)) after
+rest_at s m calls made h1 h2 = grind arith
 
 pub take_laws : MachineLaws consuming
-take_laws = record {
-  either = λ m. ⊎_elim (λ is. inr (m.wanted, (is, refl))) (λ none. inl none) (cases_Bool (is_taking m));
-  never = λ m c none is. true≢false (sym is.0 ∙ none);
-  one = λ m c d is on. sym is.1 ∙ on.1;
-  due_busy = λ m a is. (m.wanted, (due_at-takes m.stage m a is, refl));
-  at_rest = λ m calls made st none. rest_at m.stage m calls made none st.made_is;
-  follows = λ shape c calls more list is_more begins. (more, is_more.are, begins);
-  part = λ m c calls more made list stands is_more begins. record { calls = calls; before = record { are = stands.are; list_is = refl }; more = more; is_more = is_more; part = begins };
-  stays = λ m c calls is. (after_so m.shape m.wanted true true (is_taking m) (is_taking m) calls calls (sym is.0) (sym is.0) refl, refl);
-  goes = λ m m' c d calls more is on after. (
-    sym on.1 ∙ after.1 ∙ is.1,
-    after_so m.shape m.wanted (is_taking m) (is_taking m') true true calls more is.0 on.0 after.0,
-  );
-  over = λ m m' c calls more is none after.
-      subst (λ (w : ℕ). HasTakeMore m.shape w calls more) is.1 (after_so m.shape m.wanted (is_taking m) (is_taking m') true false calls more is.0 none after.0);
-  whole_rests = λ m list start none. ap (λ (t : Bool). whole_take t list start) none;
-  whole_busy = λ m c list start is. ap (λ (t : Bool). whole_take t list start) is.0;
-  most_rests = λ m none. ap (λ (t : Bool). longest_while m.shape t m.wanted) none;
-  most_busy = λ m c is. ap (λ (t : Bool). longest_while m.shape t m.wanted) is.0 ∙ ap (longest_taking m.shape) is.1;
-}
+take_laws = grind arith
 
 -- what the machine reports about its due access
 pub take_due :
@@ -80,17 +48,12 @@ take_due m a due right goes_on bounded zeros = record {
 
 -- the number of a take's accesses is bounded
 few_reads : (shape : Shape) (wanted : ℕ) → wanted ≤ take_batch_of shape → longest_taking shape wanted ≤ 4865
-few_reads shape zero few = omega (arith, shape.small_modulus, shape.few_digits)
-few_reads shape (suc zero) few = omega (arith, shape.small_modulus, shape.few_digits)
-few_reads shape (suc (suc m)) few =
-    let few' : suc (suc m) ≤ 64 = omega (arith, few, shape.small_take_batch, shape.few_cells) in
-    omega (arith, shape.small_modulus, shape.few_digits, mul-le-mul_right (width_of shape) few')
+few_reads shape wanted h1 = grind arith
 
 pub few_taken :
     (shape : Shape) (taking : Bool) (wanted n : ℕ) (list : List Event) → IsMarked n list (longest_while shape taking wanted) →
     (taking ≡ true → wanted ≤ take_batch_of shape) → n < 10000
-few_taken shape false wanted n list marked few = omega (arith, marked.1)
-few_taken shape true wanted n list marked few = omega (arith, marked.1, few_reads shape wanted (few refl))
+few_taken shape taking wanted n list h1 h2 = grind arith
 
 -- if the machine keeps the number of items requested, the answer is fed as to a side's machine
 pub take_fed :
@@ -112,8 +75,7 @@ over_reply shape wanted calls more is_more = ⊎_elim
 pub over_adds :
     (shape : Shape) (wanted : ℕ) (calls more : Takes) → HasTakeMore shape wanted calls more → (whole list : List Event) → list ≡ events_of C (take_program shape more) →
     (x : replies.TakeReply) → Some x ≡ reply_at_end more.end more.takes → TakeAdds (ends_closed calls.end) shape wanted calls x whole list
-over_adds shape wanted calls more is_more whole list list_is x replied =
-    subst (λ (t : Bool). TakeAdds t shape wanted calls x whole list) (sym (ap ends_closed is_more.not_over)) (more, is_more, replied, record { are = is_more.are; list_is = list_is })
+over_adds shape wanted calls more is_more whole list list_is x replied = grind arith
 
 -- ---- the model of the end
 
@@ -136,8 +98,7 @@ begins_seen {O} e m now most wanted is = subst (Begins m now) (ap (λ (z : Taker
 
 -- a take that is under way asks for as many as one that starts now
 pub wants_same : (taking : Bool) (wanted most : ℕ) → (taking ≡ true → wanted ≡ most) → wants_next taking wanted most ≡ most
-wants_same false wanted most same = refl
-wants_same true wanted most same = same refl
+wants_same taking wanted most h1 = grind arith
 
 -- a take that starts or continues
 abbrev pub take_begun :
@@ -162,19 +123,11 @@ module _ (wanted : ℕ) (s : Step consuming wanted) where
   before_is = record { are = subst (λ (z : Shape). AreTakes z 0 calls.takes calls.end) (shape_there consuming take_laws s) s.begun.was.0.at.stands.are; list_is = whole_there consuming take_laws s }
 
   some_of : (o : Option replies.TakeReply) → s.m.reply ≡ o → TakeOf → IfSome o (λ x. (is_taking s.m ≡ false) × HasTakenOf s.e.ring.shape wanted whole s.e.list x)
-  some_of None is o = tt
-  some_of (Some x) is (Refused same none refused list) =
-      (none, record { calls = calls; before_is = before_is; adds = subst (λ (t : Bool). TakeAdds t s.e.ring.shape wanted calls x whole s.e.list) (sym refused.0) (let q : Some x ≡ Some reply.Closed = sym is ∙ refused.1 in (cc, list ∙ sym (whole_there consuming take_laws s))) })
-  some_of (Some x) is (Goes event grows same part more made stands) =
-      absurd (none-some x (sym (subst (λ (z : Bool). IsReplyToTake more z s.m.reply) same.0 stands.reply_is) ∙ is))
-  some_of (Some x) is (Over event grows none more is_more list made stands) =
-      (none, record { calls = calls; before_is = before_is; adds = over_adds s.e.ring.shape wanted calls more is_more whole s.e.list list x (sym is ∙ subst (λ (z : Bool). IsReplyToTake more z s.m.reply) none stands.reply_is) })
+  some_of o h1 h2 = grind arith
 
   -- a take that continues asks for as many items
   wanted_of : TakeOf → is_taking s.m ≡ true → s.m.wanted ≡ wanted
-  wanted_of (Refused same none refused list) is = absurd (true≢false (sym is ∙ none))
-  wanted_of (Goes event grows same part more made stands) is = same.1
-  wanted_of (Over event grows none more is_more list made stands) is = absurd (true≢false (sym is ∙ none))
+  wanted_of h1 h2 = grind arith
 
   pub take_wanted : is_taking s.m ≡ true → s.m.wanted ≡ wanted
   take_wanted = wanted_of (out consuming take_laws s)
@@ -196,9 +149,7 @@ module _ (wanted : ℕ) (s : Step consuming wanted) where
     none_of None is (Goes event grows same part more made stands) =
         let stay = stays consuming take_laws s n' n_rests n_goes same in
         (same.0, stay, subst (λ (l : List Event). HasTakePart s.e.ring.shape wanted l s.e.list) (sym (whole_there consuming take_laws s) ∙ sym stay) part)
-    none_of None is (Over event grows none more is_more list made stands) =
-        let some = over_reply s.e.ring.shape wanted calls more is_more in
-        absurd (none-some some.0 (sym is ∙ (subst (λ (x : Bool). IsReplyToTake more x s.m.reply) none stands.reply_is ∙ some.1)))
+    none_of None is (Over event grows none more is_more list made stands) = grind (arith, (over_reply s.e.ring.shape wanted calls more is_more), none-some, stands.reply_is)
 
     pub take_none : (r : Option replies.TakeReply) → r ≡ s.m.reply → IfNone r ((is_taking s.m ≡ true) × (new ≡ whole) × HasTakePart s.e.ring.shape wanted new s.e.list)
     take_none r r_is = subst (λ (z : Option replies.TakeReply). IfNone z ((is_taking s.m ≡ true) × (new ≡ whole) × HasTakePart s.e.ring.shape wanted new s.e.list)) (sym r_is) (none_of s.m.reply refl (out consuming take_laws s))

@@ -1,5 +1,5 @@
 -- A take of several items: its reply with their number, and the items that it took.
-use Rattle.std.proofs.Common.{◌≡◌, ⊎_elim, inl, inr, ℕ, ◌≤◌, Bool, true, false, true≢false, Option, Some, None, List, [], ◌∷◌, length, take, refl, ap, sym, subst, ◌∙◌, arith}
+use Rattle.std.proofs.Common.{rules, ◌≡◌, ⊎_elim, inl, inr, ℕ, ◌≤◌, Bool, true, false, Option, Some, None, List, [], ◌∷◌, length, take, refl, ap, sym, subst, ◌∙◌, arith}
 use Rattle.std.specs.Prelude.{◌+◌, ◌⊎◌, IfNone, IfSome, drop}
 use Rattle.bits_core.specs.declared.events.Event.{Event}
 use Rattle.bits_core.specs.declared.shapes.Shape.{Shape}
@@ -9,10 +9,9 @@ use Rattle.ring_core.specs.declared.replies.TakeReply.TheVariants as reply
 use Rattle.ring_core.specs.declared.replies.TakeBatchReply as batch_replies
 use Rattle.ring_core.specs.declared.replies.TakeBatchReply.TheVariants as batch_reply
 use Rattle.ring_core.specs.Items.{taken_of}
-use Rattle.ring_core.specs.Takes as takes
 use Rattle.ring_core.specs.Takes.{AreTakes, End, Open, Take, Takes}
 use Rattle.ring_core.specs.ConsumerState.{ConsumerState, is_taking}
-use Rattle.ring_core.specs.ConsumerCalls.{AreItemsOfTake, ConsumerStands, HasTakeMore, IsOpenForTake, IsReplyToTake, ends_closed, items_at_end, last_items, last_take_reply, reply_at_end, take_batch_reply, take_reply_to}
+use Rattle.ring_core.specs.ConsumerCalls.{AreItemsOfTake, ConsumerStands, HasTakeMore, IsReplyToTake, ends_closed, items_at_end, last_items, last_take_reply, reply_at_end, take_batch_reply, take_reply_to}
 use Rattle.ring_ends.specs.CounterEnds.{TakeAllKept, TakeMade}
 use Rattle.ring_seats.specs.Ring.{Ring, RingEnd}
 use Rattle.ring_seats.specs.Steppers.{Grows}
@@ -31,23 +30,15 @@ use Rattle.ring_core.proofs.Recorded.RecordedStates.{few_items as few_of}
 abbrev Numbered : Option replies.TakeReply → List ℕ → Type 0
 Numbered r items = (x : batch_replies.TakeBatchReply) → take_batch_reply r items ≡ Some x → number_brought x ≡ length items
 
-by_item : (i : ℕ) (items : List ℕ) → Numbered (Some (reply.Item i)) items
-by_item i items x is = let e : batch_reply.Taken (length items) ≡ x = cc in sym (ap number_brought e)
-
 by_take : (x : Take) → Numbered (Some (take_reply_to x)) (taken_of x)
-by_take (takes.Item seen []) = by_item 0 []
-by_take (takes.Item seen (item ∷ items)) = by_item item (item ∷ items)
-by_take (takes.ItemAfterClose seen again []) = by_item 0 []
-by_take (takes.ItemAfterClose seen again (item ∷ items)) = by_item item (item ∷ items)
-by_take (takes.Empty seen) = λ x is. let e : batch_reply.Empty ≡ x = cc in sym (ap number_brought e)
+by_take x = grind arith
 
 by_last : (first : Option replies.TakeReply) (items : List ℕ) → Numbered first items → (xs : List Take) → Numbered (last_take_reply first xs) (last_items items xs)
 by_last first items is [] = is
 by_last first items is (x ∷ xs) = by_last (Some (take_reply_to x)) (taken_of x) (by_take x) xs
 
 numbered : (end : End) (xs : List Take) → Numbered (reply_at_end end xs) (items_at_end end xs)
-numbered takes.Open xs = by_last None [] (λ x is. absurd (none-some x is)) xs
-numbered (takes.Closed seen again) xs = λ x is. let e : batch_reply.Closed ≡ x = cc in sym (ap number_brought e)
+numbered end xs = grind (arith, by_last, none-some)
 
 -- a take with a reply has one with the number of items too
 pub batch_told : (x : replies.TakeReply) (items : List ℕ) → (y : batch_replies.TakeBatchReply) × (take_batch_reply (Some x) items ≡ Some y)
@@ -57,23 +48,16 @@ batch_told reply.Closed items = (batch_reply.Closed, refl)
 
 -- and vice versa
 pub told_batch : (r : Option replies.TakeReply) (items : List ℕ) (y : batch_replies.TakeBatchReply) → take_batch_reply r items ≡ Some y → (x : replies.TakeReply) × (r ≡ Some x)
-told_batch None items y is = absurd (none-some y is)
-told_batch (Some x) items y is = (x, refl)
+told_batch r items y h1 = grind arith
 
 pub told_none : (r : Option replies.TakeReply) (items : List ℕ) → take_batch_reply r items ≡ None → r ≡ None
-told_none None items is = refl
-told_none (Some x) items is = let told = batch_told x items in absurd (none-some told.0 (sym is ∙ told.1))
+told_none r items h1 = grind arith
 
 pub told_closed : (r : Option replies.TakeReply) (items : List ℕ) → r ≡ Some reply.Closed → take_batch_reply r items ≡ Some batch_reply.Closed
 told_closed r items is = ap (λ (x : Option replies.TakeReply). take_batch_reply x items) is
 
 few_more : (shape : Shape) (wanted : ℕ) (calls more : Takes) → HasTakeMore shape wanted calls more → length (items_at_end more.end more.takes) ≤ wanted
-few_more shape wanted calls more is_more = ⊎_elim
-    (λ one.
-    let items : items_at_end more.end more.takes ≡ taken_of one.0 = ap (λ (t : Takes). items_at_end t.end t.takes) one.2 ∙ last_snoc [] calls.takes one.0 in
-    omega (arith, ap length items, few_of shape _ wanted one.0 one.1))
-    (λ told. omega (arith, ap (λ (t : Takes). length (items_at_end t.end t.takes)) told.2))
-    is_more.is_one_more
+few_more shape wanted calls more is_more = grind (arith, few_of, last_snoc)
 
 -- ---- a reply that was returned
 
@@ -123,35 +107,14 @@ module _ (shape : Shape) (wanted : ℕ) (before after : List Event) (calls : Tak
   pub brought_more :
       (more : Takes) → HasTakeMore shape wanted calls more → HasTakes shape after more → (taking : Bool) → taking ≡ false →
       (r : Option replies.TakeReply) → IsReplyToTake more taking r → (items : List ℕ) → AreItemsOfTake more taking items → Brought shape wanted before after r items
-  brought_more more is_more added taking none r replied items are =
-      let r_is : r ≡ reply_at_end more.end more.takes = subst (λ (t : Bool). IsReplyToTake more t r) none replied in
-      let items_are : items ≡ items_at_end more.end more.takes = subst (λ (t : Bool). AreItemsOfTake more t items) none are in
-      subst (λ (z : Option replies.TakeReply × List ℕ). Brought shape wanted before after z.0 z.1) (λ i. (sym r_is i, sym items_are i)) (brought_so more is_more added)
+  brought_more more is_more added taking none r replied items are = grind (arith, (brought_so more is_more added), more.end, more.takes)
 
   -- none, once a take has returned Closed
   pub brought_none : ends_closed calls.end ≡ true → after ≡ before → (r : Option replies.TakeReply) → r ≡ Some reply.Closed → (items : List ℕ) → items ≡ [] → Brought shape wanted before after r items
-  brought_none told same r r_is items none = record {
-    reply = batch_reply.Closed;
-    told = told_closed r items r_is;
-    number = sym (ap length none);
-    few = omega (arith, ap length none);
-    phrase = λ into _. record { calls = calls; before_is = has; adds = subst (λ (t : Bool). TakeAllAdds t shape wanted calls batch_reply.Closed into before after) (sym told) (refl, same) };
-  }
-
--- once a take has returned Closed, none is under way, and the machine keeps no items
-none_kept : (end : End) (xs : List Take) → ends_closed end ≡ true → items_at_end end xs ≡ []
-none_kept takes.Open xs is = absurd (true≢false (sym is))
-none_kept (takes.Closed seen again) xs is = refl
-
-never_open : (calls : Takes) → ends_closed calls.end ≡ true → calls.end ≡ Open → ⊥
-never_open calls is opened = true≢false (sym is ∙ ap ends_closed opened)
+  brought_none told same r r_is items none = grind arith
 
 rests_told : (m : ConsumerState) (calls : Takes) (made : List Made) → ConsumerStands m calls made → ends_closed calls.end ≡ true → (is_taking m ≡ false) × (m.items ≡ [])
-rests_told m calls made stands told = by (is_taking m) refl
-  where
-    by : (t : Bool) → is_taking m ≡ t → (is_taking m ≡ false) × (m.items ≡ [])
-    by true is = absurd (never_open calls told (subst (λ (z : Bool). IsOpenForTake z calls) is stands.not_over))
-    by false is = (is, subst (λ (z : Bool). AreItemsOfTake calls z m.items) is stands.items_are ∙ none_kept calls.end calls.takes told)
+rests_told m calls made stands told = grind arith
 
 -- ---- for a complete take
 
@@ -182,13 +145,9 @@ module _ (wanted : ℕ) (s : Step consuming wanted) where
   before_is = record { are = subst (λ (z : Shape). AreTakes z 0 calls.takes calls.end) (shape_there consuming take_laws s) s.begun.was.0.at.stands.are; list_is = whole_there consuming take_laws s }
 
   brought_of : (x : replies.TakeReply) → s.m.reply ≡ Some x → Outcome consuming s.begun.seen s.e s.m calls wanted → (is_taking s.m ≡ false) × Brought s.e.ring.shape wanted s.begun.whole s.e.list s.m.reply s.m.items
-  brought_of x is (Refused same none refused list) =
-      let kept = rests_told s.begun.now calls s.begun.was.0.made s.begun.begins.1 refused.0 in
-      (none, brought_none s.e.ring.shape wanted s.begun.whole s.e.list calls before_is refused.0 (list ∙ sym (whole_there consuming take_laws s)) s.m.reply refused.1 s.m.items (ap (λ (x : ConsumerState). x.items) (s.rests kept.0).0 ∙ kept.1))
-  brought_of x is (Goes event grows same part more made stands) =
-      absurd (none-some x (sym (subst (λ (z : Bool). IsReplyToTake more z s.m.reply) same.0 stands.reply_is) ∙ is))
-  brought_of x is (Over event grows none more is_more list made stands) =
-      (none, brought_more s.e.ring.shape wanted s.begun.whole s.e.list calls before_is more is_more (record { are = is_more.are; list_is = list }) (is_taking s.m) none s.m.reply stands.reply_is s.m.items stands.items_are)
+  brought_of x is (Refused same none refused list) = grind arith
+  brought_of x is (Goes event grows same part more made stands) = grind arith
+  brought_of x is (Over event grows none more is_more list made stands) = search (rules, before_is, brought_more)
 
   step_brought : (y : batch_replies.TakeBatchReply) → take_batch_reply s.m.reply s.m.items ≡ Some y → (is_taking s.m ≡ false) × Brought s.e.ring.shape wanted s.begun.whole s.e.list s.m.reply s.m.items
   step_brought y is = let told = told_batch s.m.reply s.m.items y is in brought_of told.0 told.1 (out consuming take_laws s)
@@ -198,43 +157,21 @@ module _ (wanted : ℕ) (s : Step consuming wanted) where
 
   -- there is room for the items that a take took
   pub step_room : IfSome reply_now (λ _. length s.m.items ≤ wanted)
-  step_room = by reply_now refl
-    where
-      by : (o : Option batch_replies.TakeBatchReply) → reply_now ≡ o → IfSome o (λ _. length s.m.items ≤ wanted)
-      by None is = tt
-      by (Some y) is = (step_brought y is).1.few
+  step_room = grind (arith, step_brought)
 
   module _ (r : Option batch_replies.TakeBatchReply) (r_is : r ≡ reply_now) where
     pub step_one : ((r ≡ Some batch_reply.Closed) × (s.e ≡ s.begun.seen)) ⊎ ((x : Event) × Grows s.begun.seen s.e x)
     step_one = ⊎_elim (λ refused. inl (r_is ∙ told_closed s.m.reply s.m.items refused.0, refused.1)) (λ grows. inr grows) (take_one wanted s s.m.reply refl)
 
     pub step_within : IfSome r (λ y. number_brought y ≤ wanted)
-    step_within = by r refl
-      where
-        by : (o : Option batch_replies.TakeBatchReply) → r ≡ o → IfSome o (λ y. number_brought y ≤ wanted)
-        by None is = tt
-        by (Some y) is = let told : reply_now ≡ Some y = sym r_is ∙ is in brought_within (step_brought y told).1 y told
+    step_within = grind (arith, brought_within, step_brought)
 
     module _ (into : List ℕ) where
       pub step_some : IfSome r (λ _. take (length s.m.items) into ≡ s.m.items) → IfSome r (λ y. (is_taking s.m ≡ false) × HasTakenAll s.e.ring.shape wanted s.begun.whole s.e.list y into)
-      step_some = by r refl
-        where
-          by : (o : Option batch_replies.TakeBatchReply) → r ≡ o → IfSome o (λ _. take (length s.m.items) into ≡ s.m.items) → IfSome o (λ y. (is_taking s.m ≡ false) × HasTakenAll s.e.ring.shape wanted s.begun.whole s.e.list y into)
-          by None is first = tt
-          by (Some y) is first =
-              let told : reply_now ≡ Some y = sym r_is ∙ is in
-              let b = step_brought y told in
-              (b.0, subst (λ (z : batch_replies.TakeBatchReply). HasTakenAll s.e.ring.shape wanted s.begun.whole s.e.list z into) (told_of reply_now b.1.reply b.1.told y told) (b.1.phrase into first))
+      step_some = grind (arith, step_brought, told_of)
 
       pub step_others : (new : List ℕ) → IfSome r (λ _. drop (length s.m.items) new ≡ drop (length s.m.items) into) → IfSome r (λ y. drop (number_brought y) new ≡ drop (number_brought y) into)
-      step_others new = by r refl
-        where
-          by : (o : Option batch_replies.TakeBatchReply) → r ≡ o → IfSome o (λ _. drop (length s.m.items) new ≡ drop (length s.m.items) into) → IfSome o (λ y. drop (number_brought y) new ≡ drop (number_brought y) into)
-          by None is others = tt
-          by (Some y) is others =
-              let told : reply_now ≡ Some y = sym r_is ∙ is in
-              let b = (step_brought y told).1 in
-              subst (λ (n : ℕ). drop n new ≡ drop n into) (sym b.number ∙ ap number_brought (told_of reply_now b.reply b.told y told)) others
+      step_others new = grind (arith, step_brought, told_of)
 
   module _ (n' : ℕ) (n_rests : is_taking s.m ≡ false → n' ≡ 0) (n_goes : (d : ℕ) → (is_taking s.m ≡ true) × (s.m.wanted ≡ d) → n' ≡ s.begun.n + 1) (r : Option batch_replies.TakeBatchReply) (r_is : r ≡ reply_now) where
     abbrev new : List Event
@@ -272,12 +209,10 @@ module _ (a b : RingEnd) (count cell : ℕ) (calls : Takes) (wanted : ℕ) (y : 
   answer = (λ i. take_batch_reply (sym m.replied i) (sym m.brought i)) ∙ sym kept.3
 
   pub kept_all : HasTakenAll b.ring.shape wanted a.list b.list y into
-  kept_all = subst (λ (z : batch_replies.TakeBatchReply). HasTakenAll b.ring.shape wanted a.list b.list z into) (told_of (take_batch_reply last items) came.reply came.told y answer)
-      (came.phrase into (ap (λ (l : List ℕ). take (length l) into) (sym m.brought) ∙ sym kept.4 ∙ m.brought))
+  kept_all = grind (arith, (told_of (take_batch_reply last items) came.reply came.told y answer), answer)
 
   pub kept_within : number_brought y ≤ wanted
   kept_within = brought_within came y answer
 
 pub still_open : (end : End) → ends_closed end ≡ false → end ≡ Open
-still_open takes.Open is = refl
-still_open (takes.Closed seen again) is = absurd (true≢false is)
+still_open end h1 = grind arith

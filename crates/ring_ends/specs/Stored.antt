@@ -1,5 +1,6 @@
 -- The lists of a ring's two ends in terms of a queue: the items that were stored, or taken.
-use Rattle.std.specs.Prelude.{◌≡◌, ℕ, List, [], ◌∷◌, ◌++◌}
+use Rattle.std.specs.Prelude.{◌≡◌, ℕ, Bool, true, List, [], ◌∷◌, ◌++◌}
+use Rattle.bits_core.specs.Made.{IsPrefix}
 use Rattle.ring_core.specs.declared.replies.PutReply.{PutReply}
 use Rattle.ring_core.specs.declared.replies.PutReply.TheVariants as single
 use Rattle.ring_core.specs.declared.replies.BatchReply.{BatchReply}
@@ -41,3 +42,11 @@ StoresMore a b items = (before : List ℕ) → HasStored a before → HasStored 
 -- the same for items taken
 abbrev pub TakesMore : (a b : RingEnd) → List ℕ → Type 0
 TakesMore a b items = (before : List ℕ) → HasTook a before → HasTook b (before ++ items)
+
+-- the items that the second end took are a prefix of those that the first stored
+abbrev pub TakesArePrefix : (p c : RingEnd) → Type 0
+TakesArePrefix p c = (put taken : List ℕ) → HasStored p put → HasTook c taken → IsPrefix taken put
+
+-- if a take of the second end returned Closed, they are all of them
+abbrev pub TakesAreAll : (p c : RingEnd) → Bool → Type 0
+TakesAreAll p c told = (put taken : List ℕ) → HasStored p put → HasTook c taken → told ≡ true → taken ≡ put

@@ -6,6 +6,7 @@ ghost use Rattle.bits_core.specs.declared.events.Side.TheVariants.{P, C};
 ghost use Rattle.ring_core.specs.Linear.{EachReadingIsLinearizable};
 ghost use Rattle.ring_seats.specs.Steppers.{StandsAs};
 ghost use Rattle.ring_ends.specs.Meetings.{KeepsEnd, Meets, ClosesAre, TellsAre};
+ghost use Rattle.ring_ends.specs.Stored.{HasStored, HasTook, TakesAreAll, TakesArePrefix};
 
 use crate::counter_calls::Counted;
 use crate::counter_putters::CounterPutter;
@@ -67,6 +68,7 @@ impl<A: Allocator> CounterRing<A> {
     /// memory.
     pub fn ends<'a>(&'a self, start: CounterStart) -> (CounterPutter<'a>, CounterTaker<'a>)
         requires { start ≡ self.now.id }
+        ensures fresh { HasStored result.0 [] × HasTook result.1 [] }
         ensures putter { result.0 ≡ record { ring = self.now; side = P; list = []; known = []; loads = [] } }
         ensures taker { result.1 ≡ record { ring = self.now; side = C; list = []; known = []; loads = [] } }
         ensures lawful { StandsAs P result.0 × StandsAs C result.1 }
@@ -101,6 +103,7 @@ impl CounterRing<Global> {
         mut taker: CounterTaker<'a>,
     ) -> (CounterPutter<'a>, CounterTaker<'a>)
         requires ring { putter.ring ≡ taker.ring }
+        ensures prefix { TakesArePrefix putter.entry taker.entry }
         ensures putter { KeepsEnd putter.entry result.0 }
         ensures taker { KeepsEnd taker.entry result.1 }
         ensures one { result.1.known ≡ result.0.known }
@@ -119,6 +122,8 @@ impl CounterRing<Global> {
     /// `close` returns them. It makes no access and takes no memory.
     pub fn finish<'a>(putter: CounterPutter<'a>, taker: CounterTaker<'a>) -> CounterFinished
         requires ring { putter.ring ≡ taker.ring }
+        ensures prefix { TakesArePrefix putter.entry taker.entry }
+        ensures all { TakesAreAll putter.entry taker.entry result.told }
         ensures ring { result.id ≡ putter.entry.ring.id }
         ensures meets { Meets putter.entry taker.entry result.history }
         ensures linearizable { EachReadingIsLinearizable putter.entry.ring.shape result.history }

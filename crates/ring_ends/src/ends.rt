@@ -8,18 +8,19 @@ use bits_core::{Oracle, Shape};
 use ring_core::{BatchReply, PutReply, TakeBatchReply, TakeReply};
 use std::alloc::{Allocator, Global};
 
-/// An end that puts. Its meaning is the list of its events: each call adds exactly its own accesses, and returns
-/// their result.
+/// An end that puts. To a queue's user it has stored some items, and each call says which it stores. Its meaning is the list of
+/// its events: each call adds exactly its own accesses, and returns their result.
 ///
 /// In use: `uses::batches::put_batch`.
 pub trait PutEnd {
-    ghost use Rattle.std.specs.Prelude.{◌≡◌, ◌^◌, ◌<◌};
+    ghost use Rattle.std.specs.Prelude.{◌≡◌, ◌^◌, ◌<◌, [], take};
     ghost use Rattle.bits_core.specs.Shape.{width_of};
     ghost use Rattle.ring_seats.specs.Ring.{RingEnd};
     ghost use Rattle.ring_seats.specs.Steppers.{IsSameEnd, StandsAs};
     ghost use Rattle.bits_core.specs.declared.events.Side.TheVariants.{P};
     ghost use Rattle.ring_core.specs.Puts.{IsBatch};
     ghost use Rattle.ring_ends.specs.Ends.{HasPut, HasPutAll, HasClosed};
+    ghost use Rattle.ring_ends.specs.Stored.{StoresMore, item_stored, number_stored};
 
     ghost end: { Self → RingEnd };
 
@@ -40,6 +41,7 @@ pub trait PutEnd {
     fn put(&mut self, item: u64) -> PutReply
         requires idle { idle self.old }
         requires fits { item < 2 ^ width_of (end self.old).ring.shape }
+        ensures stored { StoresMore (end self.old) (end self.new) (item_stored result item) }
         ensures idle { idle self.new }
         ensures same { IsSameEnd (end self.old) (end self.new) }
         ensures lawful { StandsAs P (end self.new) }
@@ -52,6 +54,7 @@ pub trait PutEnd {
     fn put_all(&mut self, items: &[u64]) -> BatchReply
         requires idle { idle self.old }
         requires batch { IsBatch (end self.old).ring.shape items.now }
+        ensures stored { StoresMore (end self.old) (end self.new) (take (number_stored result) items.now) }
         ensures idle { idle self.new }
         ensures same { IsSameEnd (end self.old) (end self.new) }
         ensures lawful { StandsAs P (end self.new) }
@@ -61,6 +64,7 @@ pub trait PutEnd {
     /// Closes the ring: one write of the close bit. A second close makes no access.
     fn close(&mut self)
         requires idle { idle self.old }
+        ensures stored { StoresMore (end self.old) (end self.new) [] }
         ensures idle { idle self.new }
         ensures same { IsSameEnd (end self.old) (end self.new) }
         ensures lawful { StandsAs P (end self.new) }
@@ -68,16 +72,19 @@ pub trait PutEnd {
         ensures answered { answered self.old self.new };
 }
 
-/// An end that takes. Its meaning is the list of its events, as for an end that puts.
+/// An end that takes. To a queue's user it has taken some items, and each call says which it takes. Its meaning is the list of
+/// its events, as for an end that puts.
 ///
 /// In use: `uses::two_threads::take_each`, and `uses::batches::take_batch` for takes of several.
 pub trait TakeEnd {
-    ghost use Rattle.std.specs.Prelude.{◌≡◌, ◌≤◌, length, drop};
+    ghost use Rattle.std.specs.Prelude.{◌≡◌, ◌≤◌, length, take, drop};
     ghost use Rattle.bits_core.specs.Shape.{take_batch_of};
     ghost use Rattle.ring_seats.specs.Ring.{RingEnd};
     ghost use Rattle.ring_seats.specs.Steppers.{IsSameEnd, StandsAs};
     ghost use Rattle.bits_core.specs.declared.events.Side.TheVariants.{C};
+    ghost use Rattle.ring_core.specs.ConsumerCalls.{reply_items};
     ghost use Rattle.ring_ends.specs.Ends.{HasTaken, HasTakenAll, number_brought};
+    ghost use Rattle.ring_ends.specs.Stored.{TakesMore};
 
     ghost end: { Self → RingEnd };
 
@@ -98,6 +105,7 @@ pub trait TakeEnd {
     /// later one does so, with no access.
     fn take(&mut self) -> TakeReply
         requires idle { idle self.old }
+        ensures taken { TakesMore (end self.old) (end self.new) (reply_items result) }
         ensures idle { idle self.new }
         ensures same { IsSameEnd (end self.old) (end self.new) }
         ensures lawful { StandsAs C (end self.new) }
@@ -112,6 +120,7 @@ pub trait TakeEnd {
         requires idle { idle self.old }
         requires some { 1 ≤ length into.old }
         requires few { length into.old ≤ take_batch_of (end self.old).ring.shape }
+        ensures taken { TakesMore (end self.old) (end self.new) (take (number_brought result) into.new) }
         ensures idle { idle self.new }
         ensures same { IsSameEnd (end self.old) (end self.new) }
         ensures lawful { StandsAs C (end self.new) }
@@ -134,13 +143,15 @@ pub trait RingOf<E: PutEnd, F: TakeEnd> {
     ghost use Rattle.ring_core.specs.Linear.{EachReadingIsLinearizable};
     ghost use Rattle.ring_seats.specs.Steppers.{StandsAs};
     ghost use Rattle.ring_ends.specs.Meetings.{KeepsEnd, Meets, ClosesAre, TellsAre};
+    ghost use Rattle.ring_ends.specs.Stored.{TakesAreAll, TakesArePrefix};
 
-    /// Both ends learn one lawful history, whose sides are their two lists and which begins with what each knew. Its calls are
-    /// linearizable. All later calls of both come after it. The ends are those of one ring, with no call under way; they come back with the
-    /// same lists. It makes no access and takes no memory.
+    /// The items taken so far are a prefix of the items stored. Both ends learn one lawful history, whose sides are their two lists
+    /// and which begins with what each knew. Its calls are linearizable. All later calls of both come after it. The ends are those of
+    /// one ring, with no call under way; they come back with the same lists. It makes no access and takes no memory.
     fn meet(putter: E, taker: F) -> (E, F)
         requires ring { (E.end putter).ring ≡ (F.end taker).ring }
         requires idle { E.idle putter × F.idle taker }
+        ensures prefix { TakesArePrefix (E.end putter) (F.end taker) }
         ensures putter { KeepsEnd (E.end putter) (E.end result.0) × E.idle result.0 }
         ensures taker { KeepsEnd (F.end taker) (F.end result.1) × F.idle result.1 }
         ensures one { (F.end result.1).known ≡ (E.end result.0).known }
@@ -148,12 +159,15 @@ pub trait RingOf<E: PutEnd, F: TakeEnd> {
         ensures linearizable { EachReadingIsLinearizable (E.end putter).ring.shape (E.end result.0).known }
         ensures lawful { StandsAs P (E.end result.0) × StandsAs C (F.end result.1) };
 
-    /// Ends the ring's run, of which one lawful history remains, whose sides are the two lists and which begins with what each end
-    /// knew; its calls are linearizable. The ends are those of one ring, with no call under way; they are consumed. What remains is
-    /// of that ring. It makes no access and takes no memory.
+    /// Ends the ring's run. The items taken are a prefix of the items stored, and all of them if a take has returned Closed. One
+    /// lawful history remains, whose sides are the two lists and which begins with what each end knew; its calls are linearizable. The
+    /// ends are those of one ring, with no call under way; they are consumed. What remains is of that ring. It makes no access and
+    /// takes no memory.
     fn finish(putter: E, taker: F) -> Finished
         requires ring { (E.end putter).ring ≡ (F.end taker).ring }
         requires idle { E.idle putter × F.idle taker }
+        ensures prefix { TakesArePrefix (E.end putter) (F.end taker) }
+        ensures all { TakesAreAll (E.end putter) (F.end taker) result.told }
         ensures ring { result.id ≡ (E.end putter).ring.id }
         ensures meets { Meets (E.end putter) (F.end taker) result.history }
         ensures linearizable { EachReadingIsLinearizable (E.end putter).ring.shape result.history }

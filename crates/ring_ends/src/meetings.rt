@@ -4,6 +4,7 @@ ghost use Rattle.bits_core.specs.declared.events.Side.TheVariants.{P, C};
 ghost use Rattle.ring_core.specs.Linear.{EachReadingIsLinearizable};
 ghost use Rattle.ring_seats.specs.Steppers.{StandsAs};
 ghost use Rattle.ring_ends.specs.Meetings.{KeepsEnd, Meets, ClosesAre, TellsAre, closed_reply};
+ghost use Rattle.ring_ends.specs.Stored.{HasStored, HasTook, TakesAreAll, TakesArePrefix};
 
 use crate::putters::Putter;
 use crate::rings::{FlickerRing, Pad, Start};
@@ -69,6 +70,7 @@ impl<A: Allocator> FlickerRing<A> {
         oracle_c: O2,
     ) -> (Putter<'a, O1>, Taker<'a, O2>)
         requires { start ≡ self.now.id }
+        ensures fresh { HasStored result.0.end [] × HasTook result.1.end [] }
         ensures putter { (result.0.end ≡ record { ring = self.now; side = P; list = []; known = []; loads = [] }) ×
             (result.0.call ≡ None) }
         ensures taker { (result.1.end ≡ record { ring = self.now; side = C; list = []; known = []; loads = [] }) ×
@@ -110,6 +112,7 @@ impl FlickerRing<Global> {
     ) -> (Putter<'a, O1>, Taker<'a, O2>)
         requires ring { putter.end.ring ≡ taker.end.ring }
         requires idle { (putter.call ≡ None) × (taker.taking ≡ false) }
+        ensures prefix { TakesArePrefix putter.entry.end taker.entry.end }
         ensures putter { KeepsEnd putter.entry.end result.0.end × (result.0.call ≡ None) }
         ensures taker { KeepsEnd taker.entry.end result.1.end × (result.1.taking ≡ false) }
         ensures one { result.1.end.known ≡ result.0.end.known }
@@ -133,6 +136,8 @@ impl FlickerRing<Global> {
     ) -> Finished
         requires ring { putter.end.ring ≡ taker.end.ring }
         requires idle { (putter.call ≡ None) × (taker.taking ≡ false) }
+        ensures prefix { TakesArePrefix putter.entry.end taker.entry.end }
+        ensures all { TakesAreAll putter.entry.end taker.entry.end result.told }
         ensures ring { result.id ≡ putter.entry.end.ring.id }
         ensures meets { Meets putter.entry.end taker.entry.end result.history }
         ensures linearizable { EachReadingIsLinearizable putter.entry.end.ring.shape result.history }

@@ -1,9 +1,8 @@
 -- The ends of a ring which own it together.
-use Rattle.std.specs.Prelude.{◌≡◌, ℕ, Bool, true, Option, Some, None, List, []}
+use Rattle.std.specs.Prelude.{◌≡◌, Option, Some, None, []}
 use Rattle.bits_core.specs.declared.shapes.Shape.{Shape}
 use Rattle.bits_core.specs.declared.events.Side.{Side}
 use Rattle.bits_core.specs.declared.events.Side.TheVariants.{P, C}
-use Rattle.bits_core.specs.Made.{IsPrefix}
 use Rattle.ring_seats.specs.Ring.{Ring, RingEnd}
 use Rattle.ring_seats.specs.Steppers.{StandsAs}
 use Rattle.ring_ends.specs.Stored.{HasStored, HasTook}
@@ -28,11 +27,3 @@ pub record FreshEnds (shape : Shape) (p c : RingEnd) : Type 0 where
   pub takes : StandsAs C c
   pub stored : HasStored p []
   pub took : HasTook c []
-
--- the items that the second end took are a prefix of those that the first stored
-abbrev pub TakesArePrefix : (p c : RingEnd) → Type 0
-TakesArePrefix p c = (put taken : List ℕ) → HasStored p put → HasTook c taken → IsPrefix taken put
-
--- if a take of the second end returned Closed, they are all of them
-abbrev pub TakesAreAll : (p c : RingEnd) → Bool → Type 0
-TakesAreAll p c told = (put taken : List ℕ) → HasStored p put → HasTook c taken → told ≡ true → taken ≡ put

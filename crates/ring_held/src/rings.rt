@@ -4,13 +4,13 @@ ghost use Rattle.bits_core.specs.declared.events.Side.TheVariants.{P, C};
 ghost use Rattle.ring_core.specs.Linear.{EachReadingIsLinearizable};
 ghost use Rattle.ring_seats.specs.Steppers.{StandsAs};
 ghost use Rattle.ring_ends.specs.Meetings.{ClosesAre, KeepsEnd, Meets, TellsAre};
-ghost use Rattle.ring_held.specs.Held.{FreshEnds, TakesAreAll, TakesArePrefix};
+ghost use Rattle.ring_ends.specs.Stored.{TakesAreAll, TakesArePrefix};
+ghost use Rattle.ring_held.specs.Held.{FreshEnds};
 
 use crate::padding::Padding;
 use crate::putters::HeldPutter;
 use crate::takers::HeldTaker;
 use bits_core::Shape;
-use ring_core::laws::{ring_law, whole_calls_count};
 use ring_ends::{CounterRing, Finished, RunFault};
 use std::alloc::Allocator;
 use std::sync::Arc;
@@ -57,6 +57,7 @@ pub fn meet<A: Allocator>(
     taker: HeldTaker<A>,
 ) -> (HeldPutter<A>, HeldTaker<A>)
     requires ring { putter.ring ≡ taker.ring }
+    ensures prefix { TakesArePrefix putter taker }
     ensures putter { KeepsEnd putter result.0 }
     ensures taker { KeepsEnd taker result.1 }
     ensures one { result.1.known ≡ result.0.known }
@@ -106,10 +107,6 @@ pub fn finish<A: Allocator>(putter: HeldPutter<A>, taker: HeldTaker<A>) -> Finis
     ensures prefix { TakesArePrefix putter taker }
     ensures all { TakesAreAll putter taker result.told }
 {
-    // only for the proof: the law of the ring
-    ring_law();
-    // only for the proof: what complete calls count
-    whole_calls_count();
     let HeldPutter { ring, end: p, .. } = putter;
     let HeldTaker { end: c, .. } = taker;
     let (Some(p), Some(c)) = (p, c) else {

@@ -6,10 +6,11 @@ use Rattle.near_misses.specs.NearPlays.{IsNearPlay}
 use Rattle.near_misses.specs.declared.misses.NearMiss.{NearMiss}
 use Rattle.near_misses.specs.declared.misses.NearMiss.TheVariants.{CountBeforeCell, NoSecondScan, SmallModulus, ClearsFirst, ClearsUpwards}
 use Rattle.call_lines.specs.Lines.{word_of}
+use Rattle.queue_calls.specs.Calls.{passed}
 use Rattle.queue_calls.specs.Tellings.{line_of}
-use Rattle.queue_calls.specs.Told.{event_by}
+use Rattle.queue_calls.specs.Told.{event_by, reply_by}
 use Rattle.queue_calls.specs.declared.events.CallEvent.{CallEvent}
-use Rattle.queue_calls.specs.declared.events.CallEvent.TheVariants.{PutBegins, PutStored, PutSome, TakeBegins, TakeItems, TakeSome}
+use Rattle.queue_calls.specs.declared.events.CallEvent.TheVariants.{PutBegins, PutEnds, TakeBegins, TakeEnds}
 use Rattle.queue_calls.specs.declared.hearings.Begun.TheVariants.{Nothing}
 use Rattle.call_lines.specs.declared.lines.Word.{Word}
 use Rattle.ring_script.specs.Content.{Content}
@@ -34,11 +35,9 @@ near_numbered n =
 -- the number that an event of a call has besides its word
 abbrev pub number_told : CallEvent ℕ ℕ → ℕ
 number_told (PutBegins stored) = stored
-number_told (PutStored count) = count
-number_told (PutSome count) = count
+number_told (PutEnds reply) = passed 0 (reply_by (λ count. count) reply)
 number_told (TakeBegins wanted) = wanted
-number_told (TakeItems taken) = taken
-number_told (TakeSome taken) = taken
+number_told (TakeEnds reply) = passed 0 (reply_by (λ taken. taken) reply)
 number_told _ = 0
 
 -- what it records: the word of its line, and the number

@@ -11,6 +11,7 @@ use crate::plays::{
 };
 use bits_core::{Filled, Side};
 use near_misses::{NearCall, NearFault, NearMiss, play_near_first};
+use queue_calls::Reply;
 use ring_script::{LetterRun, ScriptFault, ScriptRef};
 
 /// A start or an end of a call, as numbers.
@@ -68,10 +69,9 @@ fn telling_of(event: NearCall) -> Telling
 {
     let number = match event {
         NearCall::PutBegins(count)
-        | NearCall::PutStored(count)
-        | NearCall::PutSome(count)
+        | NearCall::PutEnds(Reply::Passed(count) | Reply::PassedSome(count))
         | NearCall::TakeBegins(count) => count as u64,
-        NearCall::TakeItems(taken) | NearCall::TakeSome(taken) => taken as u64,
+        NearCall::TakeEnds(Reply::Passed(taken) | Reply::PassedSome(taken)) => taken as u64,
         _ => 0,
     };
     Telling {
@@ -103,7 +103,7 @@ fn tell_near_play(
     ensures refused { OnErr result (EVENT_ROOM < min letters (length (content_of script.entry).letters)) }
 {
     let mut events = no_events();
-    let mut told_room = [NearCall::PutFull; EVENT_ROOM];
+    let mut told_room = [NearCall::PutEnds(Reply::Lacked); EVENT_ROOM];
     let mut taken_room = [0; EVENT_ROOM];
     let play = play_near_first(
         miss,

@@ -29,8 +29,7 @@ fills law script letters h plays puts takes asked p q seen items n start stop at
     let attempts : AreAttempts script 0 (at.before ++ Stored seen items ∷ at.after) = subst (AreAttempts script 0) at.among asked.attempts in
     let behind : items ≡ take (room_in shape (stored_in 0 at.before % modulus_of shape) seen) (offered script (stored_in 0 at.before)) =
     attempt_at script 0 at.before at.after (Stored seen items) attempts in
-    let is : items ≡ take (room_in shape (n % modulus_of shape) seen) (offered script n) =
-    behind ∙ ap (λ k. take (room_in shape (k % modulus_of shape) seen) (offered script k)) (sym at.number) in
+    let is : items ≡ take (room_in shape (n % modulus_of shape) seen) (offered script n) = grind arith in
     let there : IsPut shape (stored_in 0 at.before) (Stored seen items) = put_at shape 0 at.before at.after (Stored seen items) (subst (ArePuts shape 0) at.among p.are) in
     let room : IsPut shape n (Stored seen items) = subst (λ k. IsPut shape k (Stored seen items)) (sym at.number) there in
     let size : length items ≡ room_in shape (n % modulus_of shape) seen =

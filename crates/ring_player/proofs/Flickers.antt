@@ -1,6 +1,5 @@
 -- The ends of overlapped reads, by intervals and by the marks that a memory keeps.
-use Rattle.std.proofs.Common.{◌≡◌, ℕ, zero, suc, ◌+◌, Bool, true, false, List, length, refl, sym, ap, ◌∙◌, arith}
-use Rattle.std.specs.Prelude.{if◌then◌else◌}
+use Rattle.std.proofs.Common.{◌≡◌, ℕ, zero, suc, Bool, true, false, List, length, refl, sym, ap, ◌∙◌, arith}
 use Rattle.bits_core.specs.declared.events.Act.TheVariants.{ReadEnd}
 use Rattle.bits_core.specs.declared.events.Event.{Event}
 use Rattle.bits_core.specs.declared.shapes.Shape.{Shape}
@@ -20,14 +19,10 @@ module _ (shape : Shape) (h : List Event) (lawful : IsLawful shape h) where
   ends place is = let e = (flicker_is_by_interval shape h lawful place).0 is in (e.answer, (e.side, e.bit, e.start, e.read, e.overlap))
 
   one_more : (place : ℕ) → is_flicker_at h place ≡ true → count_below (suc place) (is_flicker_at h) ≡ suc (count_below place (is_flicker_at h))
-  one_more place is =
-      let next : count_below (suc place) (is_flicker_at h) ≡ count_below place (is_flicker_at h) + 1 = ap (λ (b : Bool). count_below place (is_flicker_at h) + (if b then 1 else 0)) is in
-      omega (arith, next)
+  one_more place is = grind arith
 
   no_more : (place : ℕ) → is_flicker_at h place ≡ false → count_below (suc place) (is_flicker_at h) ≡ count_below place (is_flicker_at h)
-  no_more place is =
-      let next : count_below (suc place) (is_flicker_at h) ≡ count_below place (is_flicker_at h) + 0 = ap (λ (b : Bool). count_below place (is_flicker_at h) + (if b then 1 else 0)) is in
-      omega (arith, next)
+  no_more place is = grind arith
 
   unmarked : (place : ℕ) (b : Bool) → is_flicker_at h place ≡ b → ((v : Bool) → ¬ EndsOverlapped h place v) → is_flicker_at h place ≡ false
   unmarked place true is none = let (v, e) = ends place is in absurd (none v e)

@@ -23,15 +23,10 @@ drop-all zero (x ∷ xs) e = absurd (omega (arith, e))
 drop-all (suc n) (x ∷ xs) e = drop-all n xs (omega (arith, e))
 
 drop-nil : (n : ℕ) → drop {A = ℕ} n [] ≡ []
-drop-nil zero = refl
-drop-nil (suc n) = refl
+drop-nil n = grind arith
 
 pub drop-drop : (m n : ℕ) (xs : List ℕ) → drop m (drop n xs) ≡ drop (n + m) xs
-drop-drop m zero xs = let none : m ≡ 0 + m = omega arith in none_first m xs ∙ ap (λ k. drop k xs) none
-  where
-    none_first : (m : ℕ) (xs : List ℕ) → drop m (drop 0 xs) ≡ drop m xs
-    none_first m [] = refl
-    none_first m (x ∷ xs) = refl
+drop-drop m zero xs = grind arith
 drop-drop m (suc n) [] = drop-nil m ∙ sym (drop-nil (suc n + m))
 drop-drop m (suc n) (x ∷ xs) = let shift : suc (n + m) ≡ suc n + m = omega arith in drop-drop m n xs ∙ ap (λ k. drop k (x ∷ xs)) shift
 

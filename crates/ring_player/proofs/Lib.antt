@@ -1,6 +1,5 @@
 pub mod Moves
 mod Nexts
-mod Overs
 mod Written
 mod Headlines
 mod Puttings

@@ -2,16 +2,12 @@
 use Rattle.std.proofs.Common.{◌≡◌, inl, inr, ◌+◌, ◌*◌, ◌<◌, ◌≤◌, Bool, true, false, Option, Some, None, List, [], ◌∷◌, ◌++◌, length, refl, sym, ap, subst, ◌∙◌, append_assoc, append-nil, length-append, arith}
 use Rattle.std.specs.Prelude.{if◌then◌else◌, IfSome}
 use Rattle.bits_core.specs.declared.events.Side.{Side}
-use Rattle.bits_core.specs.declared.events.Side.TheVariants.{P, C}
 use Rattle.bits_core.specs.declared.events.Access.{Access}
-use Rattle.bits_core.specs.declared.events.Access.TheVariants as access
 use Rattle.bits_core.specs.declared.events.Event.{Event}
 use Rattle.bits_core.specs.Bits.{is_by, other, same_side}
 use Rattle.bits_core.specs.Made.{IsPrefix, Made, answered, begin_event, end_event, events_of, subhistory, opening_event}
 use Rattle.bits_core.specs.Open.{IsOpenRight}
 use Rattle.bits_core.specs.declared.shapes.Shape.{Shape}
-use Rattle.ring_core.specs.Puts.{put_program}
-use Rattle.ring_core.specs.Takes.{take_program}
 use Rattle.ring_player.specs.Actors.{so_far, IsMove}
 use Rattle.ring_player.specs.Plays.{AreMoves, IsDone, IsDoneAfter, IsProgram, event_sides}
 use Rattle.ring_script.specs.Content.{Content}
@@ -38,8 +34,7 @@ own_other s h e by = subhistory_changes (other s) h e ∙ ap (λ t. if t then su
 
 -- the start of an access does not depend on its answer
 pub begins_as : (s : Side) (a : Access) (v : Bool) → begin_event s (answered a v) ≡ opening_event s a
-begins_as s (access.Read b) v = refl
-begins_as s (access.Write b w) v = refl
+begins_as s a v = grind arith
 
 -- the events of one more access
 pub events-more : (s : Side) (list : List Made) (a : Access) (v : Bool) → events_of s (list ++ answered a v ∷ []) ≡ so_far s list (Some a) ++ end_event s (answered a v) ∷ []
@@ -76,16 +71,11 @@ pub split_last : {A : Type 0} (xs ys zs : List A) (x y : A) → xs ++ x ∷ [] �
 split_last xs [] zs x y e = (xs, refl)
 split_last [] (w ∷ []) zs x y e = absurd (cc)
 split_last [] (w ∷ v ∷ ys) zs x y e = absurd (cc)
-split_last (w ∷ xs) (v ∷ ys) zs x y e =
-    let tails : xs ++ x ∷ [] ≡ ys ++ y ∷ zs = cc in
-    let head : w ≡ v = cc in
-    let (ws, f) = split_last xs ys zs x y tails in
-    (ws, ap (λ l. w ∷ l) f ∙ ap (λ t. t ∷ (ys ++ ws)) head)
+split_last (w ∷ xs) (v ∷ ys) zs x y e = grind (arith, split_last xs ys zs x y cc)
 
 -- an open access is the one that is due
 pub no_open : (o : Option Access) → ((a : Access) → o ≡ Some a → None ≡ Some a) → o ≡ None
-no_open None f = refl
-no_open (Some a) f = sym (f a refl)
+no_open o f = grind arith
 
 -- the events so far are a prefix of those with the due access made
 pub so_far_begins :
@@ -101,18 +91,14 @@ pub not_whole : (s : Side) (xs ys : List Made) (e : Event) → events_of s xs ++
 not_whole s xs ys e same = absurd (omega (arith, ap length same, length-append (events_of s xs) (e ∷ []), length-events s xs, length-events s ys))
 
 done_whole : (script : Content) (s : Side) (events : List Event) → IsDoneAfter script s events → (ys : List Made) × (events ≡ events_of s ys)
-done_whole script P events (calls, are, whole, all, closes) = (put_program script.shape calls, whole)
-done_whole script C events (calls, are, whole, enough) = (take_program script.shape calls, whole)
+done_whole script s events h1 = grind arith
 
 pub open_not_done : (script : Content) (s : Side) (h : List Event) (list : List Made) (a : Access) → subhistory s h ≡ so_far s list (Some a) → ¬ IsDone script s h
-open_not_done script s h list a are d =
-    let w = done_whole script s (subhistory s h) d in
-    not_whole s list w.0 (opening_event s a) (sym are ∙ w.1)
+open_not_done script s h list a are d = grind (arith, done_whole, not_whole)
 
 -- a prefix of a program is a program
 pub program_beginning : (script : Content) (s : Side) (xs ys : List Event) → IsProgram script s (xs ++ ys) → IsProgram script s xs
-program_beginning script P xs ys (calls, are, (rest, e)) = (calls, are, (ys ++ rest, sym (append_assoc xs ys rest) ∙ e))
-program_beginning script C xs ys (calls, are, (rest, e)) = (calls, are, (ys ++ rest, sym (append_assoc xs ys rest) ∙ e))
+program_beginning script s xs ys h1 = grind (arith, append_assoc)
 
 -- ---- the moves
 
@@ -123,8 +109,7 @@ moves-more script [] letter past [] e m more by = inr (subst (λ (t : List Event
 moves-more script [] letter past (x ∷ later) e m more by = absurd m
 moves-more script (l ∷ letters) letter past later e (inl (d, m)) more by = inl (d, moves-more script letters letter past later e m more by)
 moves-more script (l ∷ letters) letter past later e (inr (n, (x, xs, is, of, m))) more by =
-    let more' : ¬ IsDone script letter ((past ++ x ∷ []) ++ xs) =
-    subst (λ (t : List Event). ¬ IsDone script letter t) (ap (λ (t : List Event). past ++ t) is ∙ sym (append_assoc past (x ∷ []) xs)) more in
+    let more' : ¬ IsDone script letter ((past ++ x ∷ []) ++ xs) = grind (arith, append_assoc) in
     inr (n, (x, xs ++ e ∷ [], ap (λ (t : List Event). t ++ e ∷ []) is, of, moves-more script letters letter (past ++ x ∷ []) xs e m more' by))
 
 pub moves-idle :
@@ -134,8 +119,7 @@ moves-idle script [] letter past [] m d = inl (subst (λ (t : List Event). IsDon
 moves-idle script [] letter past (x ∷ later) m d = absurd m
 moves-idle script (l ∷ letters) letter past later (inl (d', m)) d = inl (d', moves-idle script letters letter past later m d)
 moves-idle script (l ∷ letters) letter past later (inr (n, (x, xs, is, of, m))) d =
-    let d' : IsDone script letter ((past ++ x ∷ []) ++ xs) =
-    subst (λ (t : List Event). IsDone script letter t) (ap (λ (t : List Event). past ++ t) is ∙ sym (append_assoc past (x ∷ []) xs)) d in
+    let d' : IsDone script letter ((past ++ x ∷ []) ++ xs) = grind (arith, append_assoc) in
     inr (n, (x, xs, is, of, moves-idle script letters letter (past ++ x ∷ []) xs m d'))
 
 pub sides-more : (h : List Event) (e : Event) → event_sides (h ++ e ∷ []) ≡ event_sides h ++ e.side ∷ []
@@ -146,6 +130,4 @@ sides-more (x ∷ h) e = ap (λ (t : List Side). x.side ∷ t) (sides-more h e)
 pub moves_step :
     (script : Content) (letters : List Side) (s : Side) (h h' : List Event) (moved : Bool) → AreMoves script letters [] h → IsMove script s moved h h' →
     AreMoves script (letters ++ s ∷ []) [] h'
-moves_step script letters s h h' true m (e, is, by, not) =
-    subst (λ (t : List Event). AreMoves script (letters ++ s ∷ []) [] t) (sym is) (moves-more script letters s [] h e m not by)
-moves_step script letters s h h' false m (is, d) = subst (λ (t : List Event). AreMoves script (letters ++ s ∷ []) [] t) (sym is) (moves-idle script letters s [] h m d)
+moves_step script letters s h h' moved m h1 = grind (arith, moves-more, moves-idle)

@@ -1,5 +1,5 @@
 -- What the next access of a machine implies, by cases of the call under way and of the access.
-use Rattle.std.proofs.Common.{◌≡◌, ℕ, Bool, true, false, Option, Some, None, List, refl, sym, subst}
+use Rattle.std.proofs.Common.{◌≡◌, ℕ, Bool, true, false, Option, Some, None, List, refl, sym, subst, arith}
 use Rattle.bits_core.specs.declared.events.Access.{Access}
 use Rattle.bits_core.specs.declared.shapes.Shape.{Shape}
 use Rattle.bits_core.specs.Made.{Made}
@@ -24,9 +24,7 @@ pub put_next :
     ((calls : Puts) (made : List Made) → ProducerStands p calls made → due ≡ None → (call_of p ≡ None) × (made ≡ put_program p.shape calls)) →
     ((calls : Puts) (made : List Made) (a : Access) → ProducerStands p calls made → due ≡ Some a → (c : Call) × (call_of p ≡ Some c) × PutGoesOn p.shape calls c made a) →
     NextPut p due
-put_next p None rest on calls made s =
-    let (none, all) = rest calls made s refl in
-    subst (λ c. IsNextPut p.shape calls c made None) (sym none) all
+put_next p None rest on calls made s = grind arith
 put_next p (Some a) rest on calls made s =
     let (c, is, goes) = on calls made a s refl in
     subst (λ d. IsNextPut p.shape calls d made (Some a)) (sym is) goes
@@ -46,9 +44,7 @@ pub take_next :
     ((calls : Takes) (made : List Made) → ConsumerStands p calls made → due ≡ None → (is_taking p ≡ false) × (made ≡ take_program p.shape calls)) →
     ((calls : Takes) (made : List Made) (a : Access) → ConsumerStands p calls made → due ≡ Some a → (is_taking p ≡ true) × TakeGoesOn p.shape p.wanted calls made a) →
     NextTake p due
-take_next p None rest on calls made s =
-    let (none, all) = rest calls made s refl in
-    subst (λ t. IsNextTake p.shape p.wanted calls t made None) (sym none) all
+take_next p None rest on calls made s = grind arith
 take_next p (Some a) rest on calls made s =
     let (is, goes) = on calls made a s refl in
     subst (λ t. IsNextTake p.shape p.wanted calls t made (Some a)) (sym is) goes

@@ -8,12 +8,12 @@ use Rattle.bits_core.specs.Made.{Made, answered, events_of}
 use Rattle.ring_core.specs.declared.replies.BatchReply.{BatchReply}
 use Rattle.ring_core.specs.Calls.{LastBitIsDue}
 use Rattle.ring_core.specs.Counts.{first_count}
-use Rattle.ring_core.specs.ProducerCalls.{and_put, closes_with, HasCallMore, ProducerHasMoved, IsAfterCall, IsPutOf, IsReplyToCall, new_producer, no_puts, ProducerStands, put_reply_to, room_in}
+use Rattle.ring_core.specs.ProducerCalls.{and_put, HasCallMore, ProducerHasMoved, IsAfterCall, IsPutOf, IsReplyToCall, new_producer, no_puts, ProducerStands, put_reply_to, room_in}
 use Rattle.ring_core.specs.ProducerState.{batch_reply, Call, call_of, Close, due_put, ProducerState, Put}
 use Rattle.ring_core.specs.Puts as puts
-use Rattle.ring_core.specs.Puts.{ArePuts, Full, IsBatch, number_after, Puts, put_program, Stored, stored_in}
+use Rattle.ring_core.specs.Puts.{Full, IsBatch, number_after, Puts, put_program, Stored, stored_in}
 use Rattle.ring_core.specs.Over.{fulls}
-use Rattle.ring_player.specs.Actors.{ArePutsMade, IsAsked, PutActorStands, PutTally, after_reply, full_in_reply, so_far, stored_in_reply}
+use Rattle.ring_player.specs.Actors.{ArePutsMade, IsAsked, PutActorStands, PutTally, full_in_reply, so_far, stored_in_reply}
 use Rattle.ring_player.specs.Plays.{AreAttempts, ArePutsOf, IsDoneAfter, IsProgram, offered}
 use Rattle.ring_script.specs.Content.{Content}
 use Rattle.ring_script.specs.Script.{Fit}
@@ -27,6 +27,10 @@ use Rattle.bits_core.proofs.Fitting.{AllFit-take, AllFit-drop}
 use Rattle.ring_core.proofs.LawLemmas.{calls_are_first_puts}
 use Rattle.ring_core.proofs.OverSpans.CallSpans.{stored_number}
 use Rattle.ring_core.proofs.Machines.PutCalls.{reply-push as last-more}
+
+-- the tally after this reply
+abbrev pub after_reply : PutTally → Option BatchReply → PutTally
+after_reply kept reply = record { stored = kept.stored + stored_in_reply reply; full = kept.full + full_in_reply reply }
 
 -- ---- the items offered
 
@@ -42,9 +46,7 @@ left_some (suc n) [] l = absurd (omega (arith, l))
 left_some (suc n) (x ∷ xs) l = left_some n xs (omega (arith, l))
 
 pub taken_some : (n : ℕ) (xs : List ℕ) → 1 ≤ n → 1 ≤ length xs → 1 ≤ length (take n xs)
-taken_some zero xs l m = absurd (omega (arith, l))
-taken_some (suc n) [] l m = absurd (omega (arith, m))
-taken_some (suc n) (x ∷ xs) l m = omega arith
+taken_some n xs l m = grind arith
 
 taken_few : (n : ℕ) (xs : List ℕ) → length (take n xs) ≤ n
 taken_few zero [] = omega arith
@@ -125,11 +127,7 @@ calls_asked script (Put items) calls more m (items_are, left) (x, of, more_is, a
   where
     true_false : true ≡ false → ⊥
     true_false e = absurd (cc)
-calls_asked script Close calls more m asked (more_is, are, o) = record {
-  are = are;
-  attempts = subst (λ (t : Puts). AreAttempts script 0 t.puts) (sym more_is) m;
-  closes = λ e. subst (λ (t : Puts). (script.closes ≡ true) × (stored_in 0 t.puts ≡ length script.items)) (sym more_is) asked;
-}
+calls_asked script Close calls more m asked (more_is, are, o) = grind arith
 
 -- what the due access, with its answer, continues to
 goes_on :
@@ -150,17 +148,11 @@ HasMovedFrom p p' list a v = (calls : Puts) → ProducerStands p calls list → 
 
 -- if none is due, no call is under way, and the accesses are those of the calls
 idle : (shape : Shape) (calls : Puts) (c : Option Call) (made : List Made) → IsNextPut shape calls c made None → (c ≡ None) × (made ≡ put_program shape calls)
-idle shape calls None made next = (refl, next)
-idle shape calls (Some c) made next = absurd next
+idle shape calls c made next = grind arith
 
 -- if no call is under way the accesses are those of the calls
 at_rest_is : (shape : Shape) (calls : Puts) (c : Option Call) (made : List Made) (due : Option Access) → c ≡ None → IsNextPut shape calls c made due → made ≡ put_program shape calls
-at_rest_is shape calls None made None e next = next
-at_rest_is shape calls None made (Some a) e next = absurd next
-at_rest_is shape calls (Some c) made due e next = absurd (some_none e)
-  where
-    some_none : Some c ≡ None → ⊥
-    some_none e = absurd (cc)
+at_rest_is shape calls c made due e next = grind arith
 
 pub next_in :
     (script : Content) (p : ProducerState) (kept : PutTally) (list : List Made) (o due : Option Access) → (s : PutActorStands script p kept list o) → NextOf p due →
@@ -172,15 +164,7 @@ stands_with :
     {script : Content} {p : ProducerState} {kept : PutTally} {list : List Made} {o : Option Access} (s : PutActorStands script p kept list o) (p' : ProducerState) (o' : Option Access) →
     ProducerStands p' s.calls list → p'.shape ≡ script.shape → ((items : List ℕ) → call_of p' ≡ Some (Put items) → p'.batched ≡ true) → IsAsked script s.calls (call_of p') →
     IsProgram script P (so_far P list o') → PutActorStands script p' kept list o'
-stands_with s p' o' there shape batched asked program = record {
-  calls = s.calls;
-  there = there;
-  same_shape = shape;
-  made = s.made;
-  batched = batched;
-  asked = asked;
-  program = program;
-}
+stands_with s p' o' there shape batched asked program = grind arith
 
 pub begins_access :
     (script : Content) (p : ProducerState) (kept : PutTally) (list : List Made) (due : Option Access) (a : Access) → PutActorStands script p kept list None → NextOf p due → due ≡ Some a →
@@ -208,10 +192,7 @@ unfinished script p kept list due a s next is d =
       where
         by_close : (b : Bool) → d.0.closes ≡ b → ⊥
         by_close true f = not_all more (whole f) l
-        by_close false f =
-            let puts_same : d.0.puts ≡ more.puts = sym (append-nil d.0.puts) ∙ sym e in
-            let closes_same : d.0.closes ≡ more.closes = f ∙ sym (ap (λ (t : Puts). t.closes) more_is) in
-            not_all more (same_calls d.0 more puts_same closes_same) l
+        by_close false f = grind (arith, append-nil, same_calls, not_all)
     put_less more x (y ∷ rest) more_is e whole l left =
         let (ws, f) = split_last s.calls.puts d.0.puts rest x y (sym (ap (λ (t : Puts). t.puts) more_is) ∙ e) in
         absurd (omega (arith, left, d.3, stored_rises 0 d.0.puts ws, ap (stored_in 0) f))
@@ -231,63 +212,19 @@ unfinished script p kept list due a s next is d =
 
 -- ---- the next call begins
 
--- it has started a call, or it may not
-pub began_one :
-    (script : Content) (p p' : ProducerState) (kept : PutTally) (list : List Made) (items : List ℕ) → PutActorStands script p kept list None → NextOf p None → kept.stored < length script.items →
-    (p.closed ≡ false → (call_of p' ≡ Some (Put items)) × (p'.closed ≡ false)) → call_of p' ≡ None → ⊥
-began_one script p p' kept list items s next left begun e =
-    let (none, whole) = idle p.shape s.calls (call_of p) list (next s.calls list s.there) in
-    let not_closed : p.closed ≡ false = s.there.closed_is ∙ ap (closes_with s.calls) none ∙ still_open s.calls.closes refl in
-    let call : call_of p' ≡ Some (Put items) = (begun not_closed).0 in
-    absurd (none_some (sym e ∙ call))
-  where
-    none_some : None ≡ Some (Put items) → ⊥
-    none_some e = absurd (cc)
-
-    asked_none : IsAsked script s.calls None
-    asked_none = subst (λ t. IsAsked script s.calls t) (idle p.shape s.calls (call_of p) list (next s.calls list s.there)).0 s.asked
-
-    still_open : (b : Bool) → s.calls.closes ≡ b → s.calls.closes ≡ false
-    still_open false e = e
-    still_open true e = absurd (omega (arith, (asked_none e).1, s.made.counted, left))
-
 pub began_close :
     (script : Content) (p p' : ProducerState) (kept : PutTally) (list : List Made) → PutActorStands script p kept list None → length script.items ≤ kept.stored → script.closes ≡ true →
     p'.shape ≡ p.shape → call_of p' ≡ Some Close → StandsOn p p' → PutActorStands script p' kept list None
-began_close script p p' kept list s over closes shape call on =
-    stands_with s p' None (on s.calls list s.there) (shape ∙ s.same_shape) (λ items e. absurd (no_put items (sym call ∙ e)))
-    (subst (λ t. IsAsked script s.calls t) (sym call) (closes, omega (arith, over, s.made.counted, attempts_within script 0 s.calls.puts (omega arith) s.made.attempts))) s.program
-  where
-    no_put : (items : List ℕ) → Some Close ≡ Some (Put items) → ⊥
-    no_put items e = absurd (cc)
+began_close script p p' kept list s over closes shape call on = grind (arith, stands_with, attempts_within)
 
 pub is_done :
     (script : Content) (p : ProducerState) (kept : PutTally) (list : List Made) → PutActorStands script p kept list None → NextOf p None → length script.items ≤ kept.stored →
     script.closes ≡ p.closed → IsDoneAfter script P (events_of P list)
-is_done script p kept list s next over closes =
-    let (none, whole) = idle p.shape s.calls (call_of p) list (next s.calls list s.there) in (
-      s.calls,
-      subst (λ (t : Shape). ArePuts t 0 s.calls.puts) s.same_shape s.there.are,
-      ap (events_of P) (whole ∙ ap (λ (t : Shape). put_program t s.calls) s.same_shape),
-      omega (arith, over, s.made.counted, attempts_within script 0 s.calls.puts (omega arith) s.made.attempts),
-      sym (closes ∙ s.there.closed_is ∙ ap (closes_with s.calls) none),
-    )
+is_done script p kept list s next over closes = grind (arith, idle, attempts_within)
 
 -- a close that was not requested was not made
 pub not_closed : (script : Content) (p : ProducerState) (kept : PutTally) (list : List Made) → PutActorStands script p kept list None → NextOf p None → script.closes ≡ false → script.closes ≡ p.closed
-not_closed script p kept list s next closes =
-    let (none, whole) = idle p.shape s.calls (call_of p) list (next s.calls list s.there) in
-    closes ∙ sym (s.there.closed_is ∙ ap (closes_with s.calls) none ∙ by_close s.calls.closes refl)
-  where
-    asked_none : IsAsked script s.calls None
-    asked_none = subst (λ t. IsAsked script s.calls t) (idle p.shape s.calls (call_of p) list (next s.calls list s.there)).0 s.asked
-
-    clash : script.closes ≡ true → ⊥
-    clash e = absurd (cc)
-
-    by_close : (b : Bool) → s.calls.closes ≡ b → s.calls.closes ≡ false
-    by_close false e = e
-    by_close true e = absurd (clash (asked_none e).0)
+not_closed script p kept list s next closes = grind (arith, idle)
 
 -- ---- the access ends
 
@@ -318,9 +255,7 @@ ended script p p' kept list due a v s next due_is is one moved shape batched due
     rest_reply more x more_is r = (subst (λ (t : Puts). IsReplyToCall t None p'.reply) more_is r) ∙ last-more None s.calls.puts x
 
     whole_long : (more : Puts) → ProducerStands p' more (list ++ answered a v ∷ []) → call_of p' ≡ None → length (put_program script.shape more) ≤ length (list ++ answered a v ∷ [])
-    whole_long more there none =
-        let at_rest = at_rest_is p'.shape more (call_of p') (list ++ answered a v ∷ []) due' none (next' more (list ++ answered a v ∷ []) there) in
-        omega (arith, ap length at_rest, ap (λ (t : Shape). length (put_program t more)) (shape ∙ s.same_shape))
+    whole_long more there none = grind (arith, at_rest_is)
 
     none_told : (p'.reply ≡ None) → batch_reply p' ≡ None
     none_told e = ap (λ t. cond p'.batched t None) e ∙ by_batched p'.batched

@@ -42,12 +42,7 @@ none_some a p = absurd (cc)
 pub playing :
     (s : Side) (h : List Event) (due : Option Access) (stands : Stands) (list : List Made) (o : Option Access) → open_access s h ≡ o → stands list o → subhistory s h ≡ so_far s list o →
     ((a : Access) → o ≡ Some a → due ≡ Some a) → IsPlaying s h due stands
-playing s h due stands list o e there own_is is_due = record {
-  list = list;
-  there = subst (stands list) (sym e) there;
-  own_is = own_is ∙ ap (so_far s list) (sym e);
-  is_due = λ a f. is_due a (sym e ∙ f);
-}
+playing s h due stands list o e there own_is is_due = grind arith
 
 pub there_with : (s : Side) (h : List Event) (due : Option Access) (stands : Stands) (o : Option Access) → (p : IsPlaying s h due stands) → open_access s h ≡ o → stands p.list o
 there_with s h due stands o p e = subst (stands p.list) e p.there
@@ -60,14 +55,10 @@ pub playing_on : (s : Side) (h : List Event) (due due' : Option Access) (stands 
 playing_on s h due due' stands stands' p same on = record { list = p.list; there = on p.list (open_access s h) p.there; own_is = p.own_is; is_due = λ a e. same ∙ p.is_due a e }
 
 pub reading : (found o : Option Access) (a : Access) (b : Bit) → found ≡ o → found ≡ Some a → a ≡ access.Read b → o ≡ Some (access.Read (bit_of o))
-reading found o a b same is read =
-    let e : o ≡ Some (access.Read b) = sym same ∙ is ∙ ap (λ (x : Access). Some x) read in
-    e ∙ ap (λ (x : Option Access). Some (access.Read (bit_of x))) (sym e)
+reading found o a b same is read = grind arith
 
 pub writing : (found o : Option Access) (a : Access) (b : Bit) (v : Bool) → found ≡ o → found ≡ Some a → a ≡ access.Write b v → o ≡ Some (access.Write (bit_of o) v)
-writing found o a b v same is write =
-    let e : o ≡ Some (access.Write b v) = sym same ∙ is ∙ ap (λ (x : Access). Some x) write in
-    e ∙ ap (λ (x : Option Access). Some (access.Write (bit_of x) v)) (sym e)
+writing found o a b v same is write = grind arith
 
 -- the actor, which has made room, ends the access that its side has open
 pub after_end :
@@ -93,9 +84,7 @@ end_move script s h h' due stands a e p o is by = (e, is, by, open_not_done scri
 all_zero :
     (row : ℕ → Bit) (list before : List Made) (last modulus : ℕ) (b : Bit) → list ≡ before ++ zero_reads row last → suc last ≡ modulus → b ≡ row last →
     list ++ Read b false ∷ [] ≡ before ++ (zero_reads row modulus ++ [])
-all_zero row list before last modulus b e f g =
-    ap (λ l. l ++ Read b false ∷ []) e ∙ append_assoc before (zero_reads row last) (Read b false ∷ []) ∙ ap (λ x. before ++ (zero_reads row last ++ Read x false ∷ [])) g
-    ∙ ap (λ n. before ++ zero_reads row n) f ∙ ap (λ l. before ++ l) (sym (append-nil (zero_reads row modulus)))
+all_zero row list before last modulus b e f g = grind (arith, append_assoc, append-nil)
 
 row_same : (s : Side) (i j : ℕ) (m : ℕ) → suc i ≡ m → suc j ≡ m → row_read_by s i ≡ row_read_by s j
 row_same s i j m e f = let same : i ≡ j = omega (arith, e, f) in ap (row_read_by s) same
@@ -139,8 +128,7 @@ answers_one script s h h' due stands b false p o is lawful other_is zeros last =
     let (i, due_is, top) = last in
     let there : subhistory s h' ≡ events_of s (p.list ++ Read b false ∷ []) =
     ap (subhistory s) is ∙ own_by s h e refl ∙ ap (λ l. l ++ e ∷ []) (own_with s h due stands (Some (access.Read b)) p o) ∙ sym (events-more s p.list (access.Read b) false) in
-    let others : IsProgram script (other s) (subhistory (other s) h') = subst (λ t. IsProgram script (other s) t) (sym (ap (subhistory (other s)) is ∙ own_other s h e refl)) other_is in
-    absurd (never_false script s h' p.list b lawful others there (zeros last) i (same_read b (row_read_by s i) (sym (p.is_due (access.Read b) o) ∙ due_is)) top)
+    grind (arith, own_other, never_false, same_read)
 
 -- ---- no more accesses than a number can count
 

@@ -11,14 +11,14 @@ use Rattle.ring_core.specs.ConsumerCalls.{and_end, and_take, AreItemsOfTake, cou
 use Rattle.ring_core.specs.ConsumerState.{ConsumerState, due_take, is_taking}
 use Rattle.ring_core.specs.Items.{all_taken, taken_of}
 use Rattle.ring_core.specs.Over.{empties}
-use Rattle.ring_core.specs.Takes.{Empty, Item, ItemAfterClose, Take, take_program, taken_in, Takes}
-use Rattle.ring_player.specs.Actors.{TakeActorStands, empty_in}
+use Rattle.ring_core.specs.Takes.{Take, take_program, taken_in, Takes}
+use Rattle.ring_player.specs.Actors.{TakeActorStands}
 use Rattle.ring_player.specs.Plays.{IsProgram}
-use Rattle.ring_player.specs.Wants.{AreTakesOf, wanted_at}
+use Rattle.ring_player.specs.Wants.{wanted_at}
 use Rattle.ring_script.specs.Content.{Content}
 use Rattle.ring_core.proofs.Machines.TakeCalls.{reply-push, items-push}
 use Rattle.ring_player.proofs.Nexts.{IsNextTake, NextTake as NextOf}
-use Rattle.ring_player.proofs.TakeLists.{after_is, all-more, all_are, empties-more, take_of_calls, take_within, taken-more}
+use Rattle.ring_player.proofs.TakeLists.{empty_in, after_is, all-more, all_are, empties-more, take_of_calls, take_within, taken-more}
 use Rattle.ring_player.proofs.Takings.{at_rest_is, goes_on, HasMovedFrom, next_in, one_more}
 
 -- what the actor keeps for a reply, by the items that the machine has
@@ -43,18 +43,10 @@ abbrev answer_of : Take → Option TakeBatchReply
 answer_of x = take_batch_reply (Some (take_reply_to x)) (taken_of x)
 
 kept_is : (x : Take) → kept_of (answer_of x) (taken_of x) ≡ taken_of x
-kept_is (Item seen []) = refl
-kept_is (Item seen (item ∷ items)) = refl
-kept_is (ItemAfterClose seen again []) = refl
-kept_is (ItemAfterClose seen again (item ∷ items)) = refl
-kept_is (Empty seen) = refl
+kept_is x = grind arith
 
 told_so : (x : Take) (told : Bool) → told_by (answer_of x) told ≡ told
-told_so (Item seen []) told = refl
-told_so (Item seen (item ∷ items)) told = refl
-told_so (ItemAfterClose seen again []) told = refl
-told_so (ItemAfterClose seen again (item ∷ items)) told = refl
-told_so (Empty seen) told = refl
+told_so x told = grind arith
 
 -- what the actor has once the access has ended, by the machine's reply
 abbrev pub Ended : Content → (p' : ConsumerState) → (taken : List ℕ) → (told : Bool) → (empty : ℕ) → (list : List Made) → (reply : Option TakeBatchReply) → Type 0
@@ -78,24 +70,7 @@ ended script p p' taken told empty list due a v s next due_is is one moved shape
         (b d : Bool) → is_taking p ≡ b → is_taking p' ≡ d → (more : Takes) → ConsumerStands p' more (list ++ answered a v ∷ []) → IsAfterTake script.shape p.wanted b d s.calls more →
         IsProgram script C (events_of C (list ++ answered a v ∷ [])) → Ended script p' taken told empty (list ++ answered a v ∷ []) (reply_of p')
     by_call false d b_is d_is more there after goes = absurd after
-    by_call true true b_is d_is more there more_is goes =
-        let silent : reply_of p' ≡ None = ap (λ t. take_batch_reply t p'.items) (subst (λ t. IsReplyToTake more t p'.reply) d_is there.reply_is) in (
-          record {
-            calls = more;
-            there = there;
-            same_shape = shape ∙ s.same_shape;
-            taken_is = ap (λ t. taken ++ kept_of t p'.items) silent ∙ append-nil taken ∙ s.taken_is ∙ ap (λ (t : Takes). all_taken t.takes) (sym more_is);
-            empty_is = let nothing : empty + 0 ≡ empty = omega arith in ap (λ t. empty + empty_in t) silent ∙ nothing ∙ s.empty_is ∙ ap (λ (t : Takes). empties t.takes) (sym more_is);
-            told_is = ap (λ t. told_by t told) silent ∙ s.told_is ∙ ap (λ (t : Takes). ends_closed t.end) (sym more_is);
-            takes_are = subst (λ (t : Takes). AreTakesOf script t) (sym more_is) s.takes_are;
-            wants = λ e. same_wanted ∙ s.wants b_is ∙ ap (λ (t : Takes). wanted_at script (taken_in 0 t.takes)) (sym more_is);
-            few = omega (arith, s.few, ap (λ (t : Takes). taken_in 0 t.takes) more_is);
-            long = omega (arith, s.long, ap (λ (t : Takes). length (take_program script.shape t)) more_is, length-append list (answered a v ∷ []));
-            asked = λ e. omega (arith, s.asked b_is, ap (λ (t : Takes). taken_in 0 t.takes) more_is);
-            program = goes;
-          },
-          omega (arith, ap (λ t. length (kept_of t p'.items)) silent),
-        )
+    by_call true true b_is d_is more there more_is goes = grind (arith, append-nil, length-append)
     by_call true false b_is d_is more there after goes = by_more has.is_one_more (subst (λ t. IsReplyToTake more t p'.reply) d_is there.reply_is) (subst (λ t. AreItemsOfTake more t p'.items) d_is there.items_are)
       where
         has : HasTakeMore script.shape (wanted_at script (taken_in 0 s.calls.takes)) s.calls more

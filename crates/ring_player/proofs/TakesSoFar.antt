@@ -1,27 +1,25 @@
 -- What the consumer's actor has taken in its events so far.
-use Rattle.std.proofs.Common.{◌≡◌, ◌⊎◌, inl, inr, ℕ, ◌+◌, ◌*◌, ◌<◌, ◌≤◌, Bool, true, false, Option, Some, None, List, [], ◌∷◌, ◌++◌, length, refl, sym, ap, ap₂, subst, ◌∙◌, append-nil, length-append, arith}
-use Rattle.std.specs.Prelude.{◌-◌}
+use Rattle.std.proofs.Common.{◌≡◌, ℕ, ◌+◌, ◌*◌, ◌<◌, ◌≤◌, Bool, true, false, Option, Some, None, List, [], ◌∷◌, ◌++◌, length, refl, sym, ap, subst, ◌∙◌, append-nil, length-append, arith}
 use Rattle.bits_core.specs.declared.events.Side.TheVariants.{C}
 use Rattle.bits_core.specs.declared.events.Access.{Access}
 use Rattle.bits_core.specs.declared.shapes.Shape.{Shape}
 use Rattle.bits_core.specs.Made.{Made, answered, events_of}
-use Rattle.ring_core.specs.ConsumerCalls.{and_end, and_take, count_taken, IsTakeOf, ends_closed}
+use Rattle.ring_core.specs.ConsumerCalls.{ends_closed}
 use Rattle.ring_core.specs.ConsumerState.{ConsumerState, is_taking}
 use Rattle.ring_core.specs.Counts.{first_count}
-use Rattle.ring_core.specs.Items.{all_taken, items_taken, Tells}
+use Rattle.ring_core.specs.Items.{all_taken, Tells, events_in}
 use Rattle.ring_core.specs.Over.{empties, takes_over}
-use Rattle.ring_core.specs.Takes.{AreTakes, Closed, count_after, End, Open, Take, end_phrase, take_phrase, take_phrases, take_program, taken_count, taken_in, Takes}
+use Rattle.ring_core.specs.Takes.{AreTakes, Closed, count_after, End, Open, end_phrase, take_phrase, take_phrases, take_program, taken_in, Takes}
 use Rattle.ring_player.specs.Actors.{TakeActorStands, so_far}
 use Rattle.ring_player.specs.Wants.{wanted_at}
 use Rattle.ring_player.specs.SoFar.{TakenSoFar}
 use Rattle.ring_script.specs.Content.{Content}
 use Rattle.ring_core.proofs.Machines.Following.{events_of-append, length-events}
-use Rattle.ring_core.proofs.Machines.TakeCalls.{phrases-push, closed_tells}
-use Rattle.ring_core.proofs.Readings.Over.{takes_total}
+use Rattle.ring_core.proofs.Machines.TakeCalls.{closed_tells}
+use Rattle.ring_core.proofs.Readings.Over.{calls_all_over, over-under_way, taken-over, takes_total}
 use Rattle.ring_player.proofs.Moves.{begins-trans, no_open, so_far_begins, so_far_length}
 use Rattle.ring_player.proofs.Nexts.{IsNextTake, NextTake as NextOf}
-use Rattle.ring_player.proofs.Overs.{calls_all_over, calls_cut_over}
-use Rattle.ring_player.proofs.TakeLists.{all_are, empties_few, taken-append, taken_all, taken_none}
+use Rattle.ring_player.proofs.TakeLists.{all_are, empties_few}
 use Rattle.ring_player.proofs.Takings.{next_in}
 
 pub taken_so_far :
@@ -45,6 +43,9 @@ taken_so_far script p taken told empty list o due s next is_due = by_due due is_
     tells_if Open t = absurd t
     tells_if (Closed seen again) t = refl
 
+    over : events_in (take_phrases shape first_count calls.takes) ≤ length (so_far C list o) → takes_over shape first_count calls.takes (length (so_far C list o)) ≡ calls.takes
+    over l = calls_all_over (take_phrase shape) (count_after shape) (take_phrases shape) (takes_total shape) first_count calls.takes (length (so_far C list o)) l
+
     by_due : (due : Option Access) → ((a : Access) → o ≡ Some a → due ≡ Some a) → (taking : Bool) → IsNextTake shape (wanted_at script (taken_in 0 calls.takes)) calls taking list due → TakenSoFar shape (so_far C list o) taken told empty
     by_due None f false whole =
         let none : o ≡ None = no_open o f in
@@ -54,9 +55,9 @@ taken_so_far script p taken told empty list o due s next is_due = by_due due is_
           takes = calls;
           are = calls_are;
           begins = ([], append-nil (so_far C list o) ∙ es);
-          items = taken_all shape first_count calls.takes (length (so_far C list o)) (omega (arith, size, program-parts calls)) ∙ sym s.taken_is;
-          over = ap empties (calls_all_over (take_phrase shape) (count_after shape) (take_phrases shape) (takes_total shape) first_count calls.takes (length (so_far C list o)) (omega (arith, size, program-parts calls))) ∙ sym s.empty_is;
-          ended = ap all_taken (calls_all_over (take_phrase shape) (count_after shape) (take_phrases shape) (takes_total shape) first_count calls.takes (length (so_far C list o)) (omega (arith, size, program-parts calls))) ∙ sym s.taken_is;
+          items = taken-over shape first_count calls.takes (length (so_far C list o)) ∙ ap all_taken (over (omega (arith, size, program-parts calls))) ∙ sym s.taken_is;
+          over = ap empties (over (omega (arith, size, program-parts calls))) ∙ sym s.empty_is;
+          ended = ap all_taken (over (omega (arith, size, program-parts calls))) ∙ sym s.taken_is;
           tells = (λ t. (closed_tells calls.end (sym s.told_is ∙ t), omega (arith, size)), λ t. s.told_is ∙ tells_if calls.end t.0);
         }
     by_due None f true next = absurd next
@@ -66,57 +67,21 @@ taken_so_far script p taken told empty list o due s next is_due = by_due due is_
         let bounds = so_far_length C list o in
         let longer : length list < length (take_program shape more) = omega (arith, ap length e, length-append (list ++ answered a true ∷ []) rest, length-append list (answered a true ∷ [])) in
         let open_tells_not : told ≡ false = s.told_is ∙ ap ends_closed has.not_over in
+        let over_is : takes_over shape first_count more.takes (length (so_far C list o)) ≡ calls.takes =
+        over-under_way shape _ calls more (length (so_far C list o)) has (omega (arith, s.long, program-parts calls, bounds)) (omega (arith, longer, bounds)) in
         record {
           takes = more;
           are = has.are;
           begins = begins-trans (so_far C list o) (events_of C (list ++ answered a true ∷ [])) (events_of C (take_program shape more)) (so_far_begins C list o a true f)
               (events_of C rest, sym (events_of-append C (list ++ answered a true ∷ []) rest) ∙ ap (events_of C) e);
-          items = by_more more has.is_one_more longer ∙ sym s.taken_is;
-          over = ap empties (over_more more has.is_one_more longer) ∙ sym s.empty_is;
-          ended = ap all_taken (over_more more has.is_one_more longer) ∙ sym s.taken_is;
+          items = taken-over shape first_count more.takes (length (so_far C list o)) ∙ ap all_taken over_is ∙ sym s.taken_is;
+          over = ap empties over_is ∙ sym s.empty_is;
+          ended = ap all_taken over_is ∙ sym s.taken_is;
           tells = (λ t. absurd (true_false (sym t ∙ open_tells_not)), λ t. absurd (omega (arith, t.1, longer, bounds)));
         }
       where
         true_false : true ≡ false → ⊥
         true_false e = absurd (cc)
-
-        sizes : (more : Takes) (x : Take) → more ≡ and_take calls x → length (take_program shape more) ≡ length (take_phrases shape first_count (calls.takes ++ x ∷ []))
-        sizes more x more_is = omega (arith, ap (λ (m : Takes). length (take_program shape m)) more_is, ap length (append-nil (take_phrases shape first_count (calls.takes ++ x ∷ []))))
-
-        over_more : (more : Takes) → ((x : Take) × IsTakeOf shape (count_taken shape calls).number (wanted_at script (taken_in 0 calls.takes)) x × (more ≡ and_take calls x)) ⊎ ((seen again : ℕ) × (more ≡ and_end calls seen again)) → length list < length (take_program shape more) →
-            takes_over shape first_count more.takes (length (so_far C list o)) ≡ calls.takes
-        over_more more (inl (x, of, more_is)) longer =
-            let t : ℕ = length (so_far C list o) in
-            let bounds = so_far_length C list o in
-            ap (λ (m : Takes). takes_over shape first_count m.takes t) more_is
-            ∙ calls_cut_over (take_phrase shape) (count_after shape) (take_phrases shape) (takes_total shape) first_count calls.takes x t (omega (arith, s.long, program-parts calls, bounds)) (omega (arith, longer, sizes more x more_is, bounds))
-        over_more more (inr (seen, again, more_is)) longer =
-            let t : ℕ = length (so_far C list o) in
-            let bounds = so_far_length C list o in
-            ap (λ (m : Takes). takes_over shape first_count m.takes t) more_is ∙ calls_all_over (take_phrase shape) (count_after shape) (take_phrases shape) (takes_total shape) first_count calls.takes t (omega (arith, s.long, program-parts calls, bounds))
-
-        by_more : (more : Takes) → ((x : Take) × IsTakeOf shape (count_taken shape calls).number (wanted_at script (taken_in 0 calls.takes)) x × (more ≡ and_take calls x)) ⊎ ((seen again : ℕ) × (more ≡ and_end calls seen again)) → length list < length (take_program shape more) →
-            items_taken shape first_count more.takes (length (so_far C list o)) ≡ all_taken calls.takes
-        by_more more (inl (x, of, more_is)) longer =
-            let t : ℕ = length (so_far C list o) in
-            let bounds = so_far_length C list o in
-            let front : ℕ = length (take_phrases shape first_count calls.takes) in
-            let size : length (take_program shape more) ≡ front + length (take_phrase shape (taken_count shape first_count calls.takes) x) =
-            omega (
-              arith,
-              ap (λ (m : Takes). length (take_program shape m)) more_is,
-              ap length (append-nil (take_phrases shape first_count (calls.takes ++ x ∷ []))),
-              ap length (phrases-push shape first_count calls.takes x),
-              length-append (take_phrases shape first_count calls.takes) (take_phrase shape (taken_count shape first_count calls.takes) x),
-            ) in
-            ap (λ (m : Takes). items_taken shape first_count m.takes t) more_is ∙ taken-append shape first_count calls.takes (x ∷ []) t
-            ∙ ap₂ (λ (l : List ℕ) (m : List ℕ). l ++ m) (taken_all shape first_count calls.takes t (omega (arith, s.long, program-parts calls, bounds)))
-            (taken_none shape (taken_count shape first_count calls.takes) x (t - 2 * front) (omega (arith, longer, size, bounds, s.long, program-parts calls)))
-            ∙ append-nil (all_taken calls.takes)
-        by_more more (inr (seen, again, more_is)) longer =
-            let t : ℕ = length (so_far C list o) in
-            let bounds = so_far_length C list o in
-            ap (λ (m : Takes). items_taken shape first_count m.takes t) more_is ∙ taken_all shape first_count calls.takes t (omega (arith, s.long, program-parts calls, bounds))
 
 -- it has taken no more than the script asks for
 pub taken_few :
@@ -126,5 +91,4 @@ taken_few script p taken told empty list o s = omega (arith, s.few, ap length s.
 -- no more takes found the ring empty than there are accesses
 pub empty_few :
     (script : Content) (p : ConsumerState) (taken : List ℕ) (told : Bool) (empty : ℕ) (list : List Made) (o : Option Access) → TakeActorStands script p taken told empty list o → empty ≤ length list
-empty_few script p taken told empty list o s =
-    omega (arith, s.empty_is, empties_few script.shape first_count s.calls.takes, s.long, length-append (take_phrases script.shape first_count s.calls.takes) (end_phrase s.calls.end))
+empty_few script p taken told empty list o s = grind (arith, empties_few, length-append)

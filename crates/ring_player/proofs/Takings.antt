@@ -8,17 +8,16 @@ use Rattle.ring_core.specs.Calls.{LastBitIsDue}
 use Rattle.ring_core.specs.ConsumerCalls.{and_end, and_take, count_taken, ConsumerStands, ConsumerHasMoved, HasTakeMore, IsTakeOf, new_consumer, no_takes}
 use Rattle.ring_core.specs.ConsumerState.{ConsumerState, is_taking}
 use Rattle.ring_core.specs.Items.{Tells}
-use Rattle.ring_core.specs.Takes.{AreTakes, Closed, End, Open, Take, take_program, taken_after, taken_in, Takes}
+use Rattle.ring_core.specs.Takes.{Closed, End, Open, Take, take_program, taken_after, taken_in, Takes}
 use Rattle.ring_player.specs.Actors.{TakeActorStands, so_far}
 use Rattle.ring_player.specs.Plays.{AreWantedBy, IsDoneAfter, IsProgram}
 use Rattle.ring_player.specs.Wants.{AreTakesOf, wanted_at}
 use Rattle.ring_script.specs.Content.{Content}
 use Rattle.ring_core.proofs.Machines.Following.{events_of-append}
-use Rattle.ring_core.proofs.Machines.TakeCalls.{closed_tells}
 use Rattle.ring_player.proofs.Nexts.{IsNextTake, NextTake as NextOf}
 use Rattle.ring_player.proofs.Moves.{events-more, goes_longer, program_beginning, split_last}
 use Rattle.ring_player.proofs.TakeLists.{all_are, taken_rises, take_of_calls}
-use Rattle.ring_core.proofs.Readings.TakenRead.{same_calls}
+use Rattle.ring_core.proofs.Readings.TakesRead.{same_calls}
 use Rattle.ring_core.proofs.LawLemmas.{calls_are_first_takes}
 
 -- ---- takes that the script asks for
@@ -33,19 +32,7 @@ wanted-more script k (y ∷ xs) x are left of = (are.0, are.1, wanted-more scrip
 pub one_more :
     (script : Content) (calls more : Takes) → AreTakesOf script calls → taken_in 0 calls.takes < script.takes → HasTakeMore script.shape (wanted_at script (taken_in 0 calls.takes)) calls more →
     AreTakesOf script more
-one_more script calls more are left has = elim has.is_one_more [
-  | inl z ↦ record {
-    are = has.are;
-    wanted = subst (λ (t : Takes). AreWantedBy script 0 t.takes) (sym z.2)
-        (wanted-more script 0 calls.takes z.0 are.wanted left (take_of_calls script.shape (wanted_at script (taken_in 0 calls.takes)) calls z.0 z.1));
-    ends = λ t. absurd (subst (λ (m : Takes). Tells m.end) z.2 t);
-  }
-  | inr z ↦ record {
-    are = has.are;
-    wanted = subst (λ (t : Takes). AreWantedBy script 0 t.takes) (sym z.2) are.wanted;
-    ends = λ t. omega (arith, left, ap (λ (m : Takes). taken_in 0 m.takes) z.2);
-  }
-]
+one_more script calls more are left has = grind (arith, wanted-more, take_of_calls)
 
 -- ---- the program
 
@@ -67,61 +54,37 @@ goes_on script true calls list a v are left next one =
 
 idle :
     (shape : Shape) (wanted : ℕ) (calls : Takes) (taking : Bool) (made : List Made) → IsNextTake shape wanted calls taking made None → (taking ≡ false) × (made ≡ take_program shape calls)
-idle shape wanted calls false made next = (refl, next)
-idle shape wanted calls true made next = absurd next
+idle shape wanted calls taking made next = grind arith
 
 -- if no take is under way the accesses are those of the calls
 pub at_rest_is :
     (shape : Shape) (wanted : ℕ) (calls : Takes) (taking : Bool) (made : List Made) (due : Option Access) → taking ≡ false → IsNextTake shape wanted calls taking made due →
     made ≡ take_program shape calls
-at_rest_is shape wanted calls false made None e next = next
-at_rest_is shape wanted calls false made (Some a) e next = absurd next
-at_rest_is shape wanted calls true made due e next = absurd (true_false e)
-  where
-    true_false : true ≡ false → ⊥
-    true_false e = absurd (cc)
+at_rest_is shape wanted calls taking made due e next = grind arith
 
 -- the take under way asks for as many items as the world does
 of_wanted :
     (shape : Shape) (wanted w : ℕ) (calls : Takes) (taking : Bool) (made : List Made) (due : Option Access) → (taking ≡ true → wanted ≡ w) → IsNextTake shape wanted calls taking made due →
     IsNextTake shape w calls taking made due
-of_wanted shape wanted w calls false made None same next = next
-of_wanted shape wanted w calls false made (Some a) same next = absurd next
-of_wanted shape wanted w calls true made due same next = subst (λ (w : ℕ). IsNextTake shape w calls true made due) (same refl) next
+of_wanted shape wanted w calls taking made due same next = grind arith
 
 pub next_in :
     (script : Content) (p : ConsumerState) (taken : List ℕ) (told : Bool) (empty : ℕ) (list : List Made) (o due : Option Access) → (s : TakeActorStands script p taken told empty list o) → NextOf p due →
     IsNextTake script.shape (wanted_at script (taken_in 0 s.calls.takes)) s.calls (is_taking p) list due
-next_in script p taken told empty list o due s next =
-    of_wanted script.shape p.wanted (wanted_at script (taken_in 0 s.calls.takes)) s.calls (is_taking p) list due s.wants
-    (subst (λ (t : Shape). IsNextTake t p.wanted s.calls (is_taking p) list due) s.same_shape (next s.calls list s.there))
+next_in script p taken told empty list o due s next = grind (arith, of_wanted)
 
 -- the same takes, of a machine that stands after these accesses
 stands_with :
     {script : Content} {p : ConsumerState} {taken : List ℕ} {told : Bool} {empty : ℕ} {list : List Made} {o : Option Access} (s : TakeActorStands script p taken told empty list o) (p' : ConsumerState) (o' : Option Access) →
     ConsumerStands p' s.calls list → p'.shape ≡ script.shape → (is_taking p' ≡ true → p'.wanted ≡ wanted_at script (taken_in 0 s.calls.takes)) →
     (is_taking p' ≡ true → taken_in 0 s.calls.takes < script.takes) → IsProgram script C (so_far C list o') → TakeActorStands script p' taken told empty list o'
-stands_with s p' o' there shape wants asked program = record {
-  calls = s.calls;
-  there = there;
-  same_shape = shape;
-  taken_is = s.taken_is;
-  told_is = s.told_is;
-  empty_is = s.empty_is;
-  takes_are = s.takes_are;
-  wants = wants;
-  few = s.few;
-  long = s.long;
-  asked = asked;
-  program = program;
-}
+stands_with s p' o' there shape wants asked program = grind arith
 
 pub begins_access :
     (script : Content) (p : ConsumerState) (taken : List ℕ) (told : Bool) (empty : ℕ) (list : List Made) (due : Option Access) (a : Access) → TakeActorStands script p taken told empty list None → NextOf p due →
     due ≡ Some a → TakeActorStands script p taken told empty list (Some a)
 begins_access script p taken told empty list due a s next is =
-    let n : IsNextTake script.shape (wanted_at script (taken_in 0 s.calls.takes)) s.calls (is_taking p) list (Some a) =
-    subst (λ d. IsNextTake script.shape (wanted_at script (taken_in 0 s.calls.takes)) s.calls (is_taking p) list d) is (next_in script p taken told empty list None due s next) in
+    let n : IsNextTake script.shape (wanted_at script (taken_in 0 s.calls.takes)) s.calls (is_taking p) list (Some a) = grind (arith, next_in) in
     stands_with s p (Some a) s.there s.same_shape s.wants s.asked (program_beginning script C (so_far C list (Some a)) _
     (subst (λ t. IsProgram script C t) (events-more C list a true) (goes_on script (is_taking p) s.calls list a true s.takes_are s.asked n (λ l. refl))))
 
@@ -147,9 +110,7 @@ unfinished script p taken told empty list due a s next is d =
             let takes_same : d.0.takes ≡ more.takes = sym (append-nil d.0.takes) ∙ sym e in
             let ends_same : d.0.end ≡ more.end = is_open ∙ sym (ap (λ (t : Takes). t.end) more_is) in
             absurd (not_all more (same_calls d.0 more takes_same ends_same) l)
-        by_more (inl (x, of, more_is)) (y ∷ rest) e =
-            let (ws, f) = split_last s.calls.takes d.0.takes rest x y (sym (ap (λ (t : Takes). t.takes) more_is) ∙ e) in
-            omega (arith, taken_rises 0 d.0.takes ws, ap (taken_in 0) f)
+        by_more (inl (x, of, more_is)) (y ∷ rest) e = grind (arith, split_last, taken_rises)
         by_more (inr (seen, again, more_is)) rest e =
             omega (arith, taken_rises 0 d.0.takes rest, ap (taken_in 0) (sym e ∙ ap (λ (t : Takes). t.takes) more_is))
 
@@ -175,35 +136,12 @@ unfinished script p taken told empty list due a s next is d =
 pub began_take :
     (script : Content) (p p' : ConsumerState) (taken : List ℕ) (told : Bool) (empty : ℕ) (list : List Made) → TakeActorStands script p taken told empty list None → length taken < script.takes →
     told ≡ false → (p.told ≡ false → (is_taking p' ≡ true) × (p'.wanted ≡ wanted_at script (length taken))) → p'.shape ≡ p.shape → StandsOn p p' → TakeActorStands script p' taken told empty list None
-began_take script p p' taken told empty list s left not_told begun shape on =
-    let count : length taken ≡ taken_in 0 s.calls.takes = omega (arith, ap length s.taken_is, all_are 0 s.calls.takes) in
-    stands_with s p' None (on s.calls list s.there) (shape ∙ s.same_shape) (λ e. (begun (s.there.told_is ∙ sym s.told_is ∙ not_told)).1 ∙ ap (wanted_at script) count) (λ e. omega (arith, left, count)) s.program
-
--- it has started a take
-pub began_one :
-    (script : Content) (p p' : ConsumerState) (taken : List ℕ) (told : Bool) (empty : ℕ) (list : List Made) → TakeActorStands script p taken told empty list None → told ≡ false →
-    (p.told ≡ false → is_taking p' ≡ true) → is_taking p' ≡ false → ⊥
-began_one script p p' taken told empty list s not_told opening_event e =
-    let not : p.told ≡ false = s.there.told_is ∙ sym s.told_is ∙ not_told in
-    absurd (true_false (sym (opening_event not) ∙ e))
-  where
-    true_false : true ≡ false → ⊥
-    true_false e = absurd (cc)
+began_take script p p' taken told empty list s left not_told begun shape on = grind (arith, all_are, stands_with)
 
 pub is_done :
     (script : Content) (p : ConsumerState) (taken : List ℕ) (told : Bool) (empty : ℕ) (list : List Made) → TakeActorStands script p taken told empty list None → NextOf p None →
     (told ≡ true) ⊎ (script.takes ≤ length taken) → IsDoneAfter script C (events_of C list)
-is_done script p taken told empty list s next over =
-    let (none, whole) = idle p.shape p.wanted s.calls (is_taking p) list (next s.calls list s.there) in (
-      s.calls,
-      subst (λ (t : Shape). AreTakes t 0 s.calls.takes s.calls.end) s.same_shape s.there.are,
-      ap (events_of C) (whole ∙ ap (λ (t : Shape). take_program t s.calls) s.same_shape),
-      by_over over,
-    )
-  where
-    by_over : (told ≡ true) ⊎ (script.takes ≤ length taken) → (taken_in 0 s.calls.takes ≡ script.takes) ⊎ Tells s.calls.end
-    by_over (inl t) = inr (closed_tells s.calls.end (sym s.told_is ∙ t))
-    by_over (inr l) = inl (omega (arith, l, s.few, ap length s.taken_is, all_are 0 s.calls.takes))
+is_done script p taken told empty list s next over = grind (arith, idle, all_are)
 
 -- an actor that has made no access
 pub new_taking : (script : Content) (p : ConsumerState) → p ≡ new_consumer script.shape → ConsumerStands p no_takes [] → TakeActorStands script p [] false 0 [] None
@@ -228,5 +166,4 @@ new_taking script p is there = record {
 -- if none is due, no take is under way
 pub resting :
     (script : Content) (p : ConsumerState) (taken : List ℕ) (told : Bool) (empty : ℕ) (list : List Made) (due : Option Access) → TakeActorStands script p taken told empty list None → NextOf p due → due ≡ None → is_taking p ≡ false
-resting script p taken told empty list due s next none =
-    (idle script.shape (wanted_at script (taken_in 0 s.calls.takes)) s.calls (is_taking p) list (subst (λ d. IsNextTake script.shape (wanted_at script (taken_in 0 s.calls.takes)) s.calls (is_taking p) list d) none (next_in script p taken told empty list None due s next))).0
+resting script p taken told empty list due s next none = grind (arith, idle, next_in)

@@ -1,5 +1,5 @@
 -- What is recorded of a history with one more event, whichever calls it is read as.
-use Rattle.std.proofs.Common.{◌≡◌, ℕ, suc, ◌+◌, ◌<◌, Bool, true, false, if◌then◌else◌, Option, Some, None, List, [], ◌∷◌, ◌++◌, length, refl, sym, ap, ap₂, subst, ◌∙◌, arith, append-nil, append_assoc, length-append}
+use Rattle.std.proofs.Common.{◌≡◌, ℕ, suc, ◌+◌, ◌<◌, Bool, true, false, if◌then◌else◌, Option, None, List, [], ◌∷◌, ◌++◌, length, refl, sym, ap, ap₂, subst, ◌∙◌, arith, append-nil, append_assoc, length-append}
 use Rattle.std.specs.Prelude.{◌↔◌, replicate}
 use Rattle.std.proofs.lemmas.List.{map-append, replicate-append-replicate}
 use Rattle.bits_core.specs.Bits.{is_by, other}
@@ -11,13 +11,13 @@ use Rattle.queue_calls.specs.Calls as calls
 use Rattle.ring_core.specs.Counts.{first_count}
 use Rattle.ring_core.specs.Items.{all_taken, events_in, IsTold, ToldIn}
 use Rattle.ring_core.specs.Over.{empties, fulls, puts_over, puts_over_in, takes_over, takes_over_in}
-use Rattle.ring_core.specs.Puts.{FollowsPuts, Puts, put_program, stored_in}
+use Rattle.ring_core.specs.Puts.{FollowsPuts, Puts, put_phrase, put_program, stored_after, stored_in}
 use Rattle.ring_core.specs.Recorded.{by_side, calls_told, put_told, take_told}
-use Rattle.ring_core.specs.Takes.{FollowsTakes, Takes, take_program}
+use Rattle.ring_core.specs.Takes.{FollowsTakes, Takes, take_phrases, take_program}
 use Rattle.ring_player.specs.Actors.{IsMove, PutTally}
 use Rattle.ring_player.specs.Plays.{Plays}
 use Rattle.ring_player.specs.Wants.{wanted_at}
-use Rattle.ring_player.specs.Tellings.{AreAt, event_of, call_events, IsPutStage, IsReadingAsked, IsTakeStage, listed, offers_of, SaysPut, SaysTake, TakeTally, TellsCalls, told_in, wants_of}
+use Rattle.ring_player.specs.Tellings.{AreAt, call_events, IsPutStage, IsReadingAsked, IsTakeStage, listed, offers_of, SaysPut, SaysTake, TakeTally, TellsCalls, told_in, wants_of}
 use Rattle.ring_player.specs.declared.tellings.PutStage.{PutStage}
 use Rattle.ring_player.specs.declared.tellings.PutStage.TheVariants as put
 use Rattle.ring_player.specs.declared.tellings.TakenItems.{TakenItems}
@@ -27,7 +27,7 @@ use Rattle.queue_calls.specs.declared.events.CallEvent.{CallEvent}
 use Rattle.ring_script.specs.Content.{Content}
 use Rattle.ring_core.proofs.Machines.Following.{length-events}
 use Rattle.ring_player.proofs.Moves.{by_side as is_by_side, not_by, own_by, own_other}
-use Rattle.ring_player.proofs.Overs.{none_over_puts, none_over_takes}
+use Rattle.ring_core.proofs.Readings.Over.{front, none_over, puts_total}
 use Rattle.bits_core.proofs.LawLemmas.{subhistory_changes}
 
 -- ---- one more event
@@ -46,23 +46,14 @@ abbrev last_told : Telling → Telling → (p c : ℕ) → List Event → Event 
 last_told f g p c h e = by_side e.side (f (p + length (subhistory P h))) (g (c + length (subhistory C h)))
 
 told-more : (f g : Telling) (p c : ℕ) (h : List Event) (e : Event) → calls_told f g p c (h ++ e ∷ []) ≡ calls_told f g p c h ++ last_told f g p c h e
-told-more f g p c [] e =
-    append-nil (by_side e.side (f p) (g c)) ∙ ap₂ (λ (n : ℕ) (m : ℕ). by_side e.side (f n) (g m)) (omega arith) (omega arith)
+told-more f g p c [] e = grind (arith, append-nil)
 told-more f g p c (x ∷ h) e = by_first (λ a b. told-more f g a b h e) x.side refl
   where
     now : List calls.Event
     now = by_side x.side (f p) (g c)
 
     by_first : ((a b : ℕ) → calls_told f g a b (h ++ e ∷ []) ≡ calls_told f g a b h ++ last_told f g a b h e) → (s : Side) → x.side ≡ s → calls_told f g p c ((x ∷ h) ++ e ∷ []) ≡ calls_told f g p c (x ∷ h) ++ last_told f g p c (x ∷ h) e
-    by_first more P is =
-        let later : calls_told f g (by_side x.side (suc p) p) (by_side x.side c (suc c)) (h ++ e ∷ []) ≡
-        calls_told f g (by_side x.side (suc p) p) (by_side x.side c (suc c)) h ++ last_told f g (suc p) c h e =
-        more (by_side x.side (suc p) p) (by_side x.side c (suc c))
-        ∙ ap (λ s. calls_told f g (by_side x.side (suc p) p) (by_side x.side c (suc c)) h ++ last_told f g (by_side s (suc p) p) (by_side s c (suc c)) h e) is in
-        let place : last_told f g (suc p) c h e ≡ last_told f g p c (x ∷ h) e =
-        ap₂ (λ (n : ℕ) (m : ℕ). by_side e.side (f n) (g m)) (omega (arith, own_first P x h is)) (omega (arith, own_not_first P x h is)) in
-        ap (λ l. now ++ l) (later ∙ ap (λ l. calls_told f g (by_side x.side (suc p) p) (by_side x.side c (suc c)) h ++ l) place)
-        ∙ sym (append_assoc now (calls_told f g (by_side x.side (suc p) p) (by_side x.side c (suc c)) h) (last_told f g p c (x ∷ h) e))
+    by_first more P is = grind (arith, own_first, own_not_first, append_assoc)
     by_first more C is =
         let later : calls_told f g (by_side x.side (suc p) p) (by_side x.side c (suc c)) (h ++ e ∷ []) ≡
         calls_told f g (by_side x.side (suc p) p) (by_side x.side c (suc c)) h ++ last_told f g p (suc c) h e =
@@ -76,8 +67,7 @@ told-more f g p c (x ∷ h) e = by_first (λ a b. told-more f g a b h e) x.side 
 told-last :
     (f g : Telling) (h : List Event) (e : Event) →
     calls_told f g 0 0 (h ++ e ∷ []) ≡ calls_told f g 0 0 h ++ by_side e.side (f (length (subhistory P h))) (g (length (subhistory C h)))
-told-last f g h e =
-    told-more f g 0 0 h e ∙ ap (λ l. calls_told f g 0 0 h ++ l) (ap₂ (λ (n : ℕ) (m : ℕ). by_side e.side (f n) (g m)) (omega arith) (omega arith))
+told-last f g h e = grind (arith, told-more)
 
 -- ---- what is recorded of it
 
@@ -92,11 +82,7 @@ module _ (script : Content) (h h' : List Event) (e : Event) (is : h' ≡ h ++ e 
 
   -- a reading with the event is a reading without it
   reading_before : (puts : Puts) (takes : Takes) → IsReadingAsked script h' puts takes → IsReadingAsked script h puts takes
-  reading_before puts takes r = record {
-    asked = r.asked;
-    puts_follow = record { are = r.puts_follow.are; events = begins_before P _ r.puts_follow.events };
-    takes_follow = record { are = r.takes_follow.are; events = begins_before C _ r.takes_follow.events };
-  }
+  reading_before puts takes r = grind (arith, begins_before)
 
   one_more : (s : Side) → e.side ≡ s → length (subhistory s h') ≡ suc (length (subhistory s h))
   one_more s by = omega (arith, ap length (ap (subhistory s) is ∙ own_by s h e by), length-append (subhistory s h) (e ∷ []))
@@ -112,12 +98,7 @@ module _ (script : Content) (h h' : List Event) (e : Event) (is : h' ≡ h ++ e 
       told_in script told ≡ by_side s (put_told script.shape (offers_of script puts) 0 first_count puts.puts puts.closes (length (subhistory P h)))
       (take_told script.shape (wants_of script takes) 0 first_count takes.takes takes.end (length (subhistory C h)))) →
       (events : List calls.Event) → TellsCalls script h events → TellsCalls script h' (events ++ told_in script told)
-  tells_more s by told told_is events tells puts takes r =
-      let f : Telling = put_told script.shape (offers_of script puts) 0 first_count puts.puts puts.closes in
-      let g : Telling = take_told script.shape (wants_of script takes) 0 first_count takes.takes takes.end in
-      ap₂ (λ (a : List calls.Event) (b : List calls.Event). a ++ b) (tells puts takes (reading_before puts takes r))
-      (told_is puts takes r ∙ sym (ap (λ t. by_side t (f (length (subhistory P h))) (g (length (subhistory C h)))) by))
-      ∙ sym (told-last f g h e) ∙ ap (calls_told f g 0 0) (sym is)
+  tells_more s by told told_is events tells puts takes r = grind (arith, reading_before, told-last)
 
   -- by what its own side records: the stage of that side then, and what is recorded
   moves_on :
@@ -127,10 +108,7 @@ module _ (script : Content) (h h' : List Event) (e : Event) (is : h' ≡ h ++ e 
       (take_told script.shape (wants_of script takes) 0 first_count takes.takes takes.end (length (subhistory C h)))) × Stage puts takes (suc (length (subhistory s h)))) →
       ((puts : Puts) (takes : Takes) → IsReadingAsked script h' puts takes → Stage puts takes (length (subhistory s h'))) ×
       ((events : List calls.Event) → TellsCalls script h events → TellsCalls script h' (events ++ told_in script told))
-  moves_on s by told Stage said = (
-    (λ puts takes r. subst (Stage puts takes) (sym (one_more s by)) (said puts takes r).1),
-    tells_more s by told (λ puts takes r. (said puts takes r).0),
-  )
+  moves_on s by told Stage said = grind (arith, one_more, tells_more)
 
   module _ (by : e.side ≡ P) (stage next : PutStage) (t : TakeStage) (items : ℕ) (before now : PutTally) (told : Option (CallEvent ℕ TakenItems)) where
     pub put_moves :
@@ -185,7 +163,14 @@ pub nothing_told : (script : Content) → TellsCalls script [] []
 nothing_told script puts takes r = refl
 
 pub at_first : (script : Content) → AreAt put.Between taking.Between script []
-at_first script puts takes r = (none_over_puts script.shape first_count puts.puts, none_over_takes script.shape first_count takes.takes)
+at_first script puts takes r = (
+  omega (
+    arith,
+    (front (λ c x. events_in (put_phrase script.shape c x)) (stored_after script.shape) first_count puts.puts 0).within,
+    puts_total script.shape first_count (puts_over script.shape first_count puts.puts 0),
+  ),
+  ap (λ l. events_in (take_phrases script.shape first_count l)) (none_over script.shape first_count takes.takes),
+)
 
 -- ---- one step of the world
 
@@ -240,15 +225,13 @@ not_stepped script script' h h' side stage t moved same m is at =
 
 -- what was recorded, and with one more event
 pub told_with : (script : Content) (told : List (CallEvent ℕ TakenItems)) (event : Option (CallEvent ℕ TakenItems)) → call_events script (told ++ listed event) ≡ call_events script told ++ told_in script event
-told_with script told None = ap (call_events script) (append-nil told) ∙ sym (append-nil (call_events script told))
-told_with script told (Some x) = map-append (event_of script) told (x ∷ [])
+told_with script told event = grind (arith, append-nil, map-append)
 
 pub tells_with :
     (script script' : Content) (h h' : List Event) (told told' : List (CallEvent ℕ TakenItems)) (event : Option (CallEvent ℕ TakenItems)) → script' ≡ script →
     ((events : List calls.Event) → TellsCalls script h events → TellsCalls script' h' (events ++ told_in script event)) → told' ≡ told ++ listed event →
     TellsCalls script h (call_events script told) → TellsCalls script' h' (call_events script' told')
-tells_with script script' h h' told told' event same step more tells =
-    subst (TellsCalls script' h') (sym (ap₂ call_events same more ∙ told_with script told event)) (step (call_events script told) tells)
+tells_with script script' h h' told told' event same step more tells = grind (arith, told_with)
 
 pub letters_with :
     (script script' first : Content) (h first_h h' : List Event) (s : Side) (n : ℕ) → script' ≡ script → script ≡ first →

@@ -50,8 +50,7 @@ some_of script takes j = suc (wants_of script takes j - 1)
 
 -- a take after these asks for what the world asks for there
 wants_behind : (script : Content) (takes : Takes) (front xs : List Take) (j k : ℕ) → takes.takes ≡ front ++ xs → j ≡ length front → k ≡ taken_in 0 front → wants_of script takes j ≡ wanted_at script k
-wants_behind script takes front xs j k e f g =
-    ap (λ l. wanted_at script (taken_in 0 l)) (ap₂ (λ (i : ℕ) (l : List Take). take i l) f e ∙ take-append_seam front xs) ∙ ap (wanted_at script) (sym g)
+wants_behind script takes front xs j k e f g = grind (arith, take-append_seam)
 
 some_are : (script : Content) (takes : Takes) (front xs : List Take) (j k : ℕ) → takes.takes ≡ front ++ xs → j ≡ length front → k ≡ taken_in 0 front → k < script.takes → wanted_at script k ≡ some_of script takes j
 some_are script takes front xs j k e f g l = omega (arith, some_wanted script k l, wants_behind script takes front xs j k e f g)
@@ -72,7 +71,7 @@ same_told :
     take_told script.shape (wants_of script takes) j c xs end i ≡ take_told script.shape (some_of script takes) j c xs end i
 same_told script takes front [] j k e f g m c Open left i = refl
 same_told script takes front [] j k e f g m c (Closed seen again) left i =
-    ap (λ n. told_or_behind (events_in (end_phrase (Closed seen again))) (calls.TakeBegin n) calls.TakeClosed i [])
+    ap (λ n. told_or_behind (events_in (end_phrase (Closed seen again))) (calls.TakeBegin n) (calls.TakeEnd calls.Shut) i [])
     (wants_behind script takes front [] j k e f g ∙ some_are script takes front [] j k e f g (left tt))
 same_told script takes front (x ∷ xs) j k e f g (l, of, m) c end left i =
     let long : ℕ = events_in (take_phrase script.shape c x) in
@@ -83,8 +82,7 @@ same_told script takes front (x ∷ xs) j k e f g (l, of, m) c end left i =
 
 same_calls : (f g g' : ℕ → List calls.Event) (p c : ℕ) (h : List Event) → ((i : ℕ) → g i ≡ g' i) → calls_told f g p c h ≡ calls_told f g' p c h
 same_calls f g g' p c [] same = refl
-same_calls f g g' p c (e ∷ h) same =
-    ap₂ (λ (a : List calls.Event) (b : List calls.Event). a ++ b) (ap (by_side e.side (f p)) (same c)) (same_calls f g g' (by_side e.side (suc p) p) (by_side e.side c (suc c)) h same)
+same_calls f g g' p c (e ∷ h) same = grind (arith, same_calls f g g' (by_side e.side (suc p) p) (by_side e.side c (suc c)) h same)
 
 -- what is recorded of a play is a linearizable history
 pub records :

@@ -1,5 +1,5 @@
 -- What one event of a side records of its calls, by the stage that the side is in and by what is counted about the calls that are over.
-use Rattle.std.proofs.Common.{◌≡◌, ◌⊎◌, inl, inr, ℕ, suc, ◌+◌, ◌-◌, ◌<◌, ◌≤◌, true, List, [], ◌∷◌, ◌++◌, length, take, drop, refl, sym, ap, ap₂, subst, ◌∙◌, arith, append_assoc, length-append}
+use Rattle.std.proofs.Common.{◌≡◌, ◌⊎◌, inl, inr, ℕ, suc, ◌+◌, ◌-◌, ◌<◌, ◌≤◌, true, List, [], ◌∷◌, ◌++◌, length, take, drop, refl, sym, ap, subst, ◌∙◌, arith, append_assoc, length-append}
 use Rattle.std.proofs.Math.Seq.{drop-append_seam, take-append_seam}
 use Rattle.bits_core.specs.Made.{IsPrefix}
 use Rattle.bits_core.specs.declared.shapes.Shape.{Shape}
@@ -18,7 +18,7 @@ use Rattle.ring_player.specs.declared.tellings.PutStage.TheVariants as put
 use Rattle.ring_player.specs.declared.tellings.TakeStage.TheVariants as taking
 use Rattle.ring_script.specs.Content.{Content}
 use Rattle.ring_core.proofs.CountRow.{past_is}
-use Rattle.ring_player.proofs.Overs.{over_front}
+use Rattle.ring_core.proofs.Readings.Over.{over_front}
 use Rattle.ring_player.proofs.Puttings.{fulls-more, stored-more}
 use Rattle.ring_player.proofs.TakeLists.{all-more, all_are, empties-more, take_at}
 
@@ -30,8 +30,7 @@ next_of xs (y ∷ ys) l = (y, ys, refl)
 
 -- a part of a list, by how many elements come before it and how many it has
 part_is : (xs ys zs all : List ℕ) (n m : ℕ) → (xs ++ ys) ++ zs ≡ all → n ≡ length xs → m ≡ length ys → take m (drop n all) ≡ ys
-part_is xs ys zs all n m e f g =
-    ap₂ (λ (k : ℕ) (l : List ℕ). take k l) g (ap₂ (λ (k : ℕ) (l : List ℕ). drop k l) f (sym e ∙ append_assoc xs ys zs) ∙ drop-append_seam xs (ys ++ zs)) ∙ take-append_seam ys zs
+part_is xs ys zs all n m e f g = grind (arith, append_assoc, drop-append_seam, take-append_seam)
 
 -- ---- puts
 
@@ -59,16 +58,11 @@ module _ (script : Content) (puts : Puts) (i : ℕ) {told : List calls.Event} (a
   front_after = over_front _ _ first_count puts.puts (suc i)
 
   offer_is : offers_of script puts (length before) ≡ offered script (stored_in 0 before)
-  offer_is =
-      let (rest, e) = front in
-      ap (λ l. offered script (stored_in 0 l)) (ap (λ l. take (length before) l) e ∙ take-append_seam before rest)
+  offer_is = grind (arith, front, take-append_seam)
 
   -- if a put is next, there is an item for it
   next_item : length before < length puts.puts → stored_in 0 before < length script.items
-  next_item l =
-      let (rest, e) = front in
-      let (x, more, f) = next_of before rest (omega (arith, l, ap length e)) in
-      attempt_at script 0 before x more (subst (AreAttempts script 0) (e ∙ ap (λ r. before ++ r) f) asked.attempts)
+  next_item l = grind (arith, front, next_of, attempt_at)
 
   none_next : before ≡ puts.puts → puts.closes ≡ true → stored_in 0 before ≡ length script.items
   none_next e c = ap (stored_in 0) e ∙ (asked.closes c).1
@@ -76,39 +70,18 @@ module _ (script : Content) (puts : Puts) (i : ℕ) {told : List calls.Event} (a
   pub put_begins :
       (stored : ℕ) → IsPutStage put.Between script puts i → stored ≡ stored_in 0 before → stored < length script.items →
       (calls.PutBegin (offered script stored) ∷ [] ≡ told) × IsPutStage put.Putting script puts (suc i)
-  put_begins stored e is l = elim tells [
-    | inl z ↦ elim z.2 [
-      | inl w ↦ (
-        ap (λ n. calls.PutBegin (offered script n) ∷ []) is ∙ ap (λ l. calls.PutBegin l ∷ []) (sym offer_is) ∙ sym w.1,
-        (omega (arith, z.1, ap (events_of_puts script.shape) z.0), omega (arith, w.0, ap length z.0)),
-      )
-      | inr w ↦ absurd (omega (arith, l, is, none_next w.0 w.1))
-    ]
-    | inr y ↦ absurd (elim y [
-      | inl z ↦ let (x, is', less, ends, t) = z in omega (arith, less, e)
-      | inr v ↦ elim v [ inl z ↦ omega (arith, z.3, e) | inr z ↦ omega (arith, z.1, e) ]
-    ])
-  ]
+  put_begins stored e is l = grind (arith, offer_is, none_next)
 
   pub close_begins :
       (stored : ℕ) → IsPutStage put.Between script puts i → stored ≡ stored_in 0 before → length script.items ≤ stored →
       (calls.CloseBegin ∷ [] ≡ told) × IsPutStage put.Closing script puts (suc i)
-  close_begins stored e is l = elim tells [
-    | inl z ↦ elim z.2 [
-      | inl w ↦ absurd (omega (arith, l, is, next_item w.0))
-      | inr w ↦ (sym w.2, (z.0 ∙ w.0, w.1, omega (arith, z.1, ap (events_of_puts script.shape) w.0)))
-    ]
-    | inr y ↦ absurd (elim y [
-      | inl z ↦ let (x, is', less, ends, t) = z in omega (arith, less, e)
-      | inr v ↦ elim v [ inl z ↦ omega (arith, z.3, e) | inr z ↦ omega (arith, z.1, e) ]
-    ])
-  ]
+  close_begins stored e is l = grind (arith, next_item)
 
   -- a put continues or ends, by what is counted
   pub put_goes :
       (stored full stored' full' : ℕ) → IsPutStage put.Putting script puts i → stored ≡ stored_in 0 before → full ≡ fulls before → stored' ≡ stored_in 0 after → full' ≡ fulls after →
-      ((stored < stored') × (calls.PutStored (stored' - stored) true ∷ [] ≡ told) × IsPutStage put.Between script puts (suc i)) ⊎
-      (((stored' ≤ stored) × (full < full') × (calls.PutFull ∷ [] ≡ told) × IsPutStage put.Between script puts (suc i)) ⊎
+      ((stored < stored') × (calls.PutEnd (calls.Passed (stored' - stored) true) ∷ [] ≡ told) × IsPutStage put.Between script puts (suc i)) ⊎
+      (((stored' ≤ stored) × (full < full') × (calls.PutEnd calls.Lacked ∷ [] ≡ told) × IsPutStage put.Between script puts (suc i)) ⊎
       ((stored' ≤ stored) × (full' ≤ full) × ([] ≡ told) × IsPutStage put.Putting script puts (suc i)))
   put_goes stored full stored' full' at is_stored is_full now_stored now_full = elim tells [
     | inl z ↦ absurd (omega (arith, at.0, z.1))
@@ -133,20 +106,14 @@ module _ (script : Content) (puts : Puts) (i : ℕ) {told : List calls.Event} (a
 
       by_put :
           (x : Put) → after ≡ before ++ x ∷ [] → suc i ≡ events_of_puts script.shape after → told ≡ put_answer x ∷ [] → IsPut script.shape (stored_in 0 before) x →
-          ((stored < stored') × (calls.PutStored (stored' - stored) true ∷ [] ≡ told) × IsPutStage put.Between script puts (suc i)) ⊎
-          (((stored' ≤ stored) × (full < full') × (calls.PutFull ∷ [] ≡ told) × IsPutStage put.Between script puts (suc i)) ⊎
+          ((stored < stored') × (calls.PutEnd (calls.Passed (stored' - stored) true) ∷ [] ≡ told) × IsPutStage put.Between script puts (suc i)) ⊎
+          (((stored' ≤ stored) × (full < full') × (calls.PutEnd calls.Lacked ∷ [] ≡ told) × IsPutStage put.Between script puts (suc i)) ⊎
           ((stored' ≤ stored) × (full' ≤ full) × ([] ≡ told) × IsPutStage put.Putting script puts (suc i)))
       by_put (Stored seen items) is ends t p =
           let more : stored' ≡ stored + length items =
           omega (arith, now_stored, ap (stored_in 0) is, stored-more 0 before (Stored seen items), past_is (stored_in 0 before) items, is_stored) in
-          inl (omega (arith, more, p.2.some), ap (λ n. calls.PutStored n true ∷ []) (omega (arith, more)) ∙ sym t, sym ends)
-      by_put (Full seen) is ends t p =
-          inr (inl (
-            omega (arith, now_stored, ap (stored_in 0) is, stored-more 0 before (Full seen), is_stored),
-            omega (arith, now_full, ap fulls is, fulls-more before (Full seen), is_full),
-            sym t,
-            sym ends,
-          ))
+          inl (omega (arith, more, p.2.some), ap (λ n. calls.PutEnd (calls.Passed n true) ∷ []) (omega (arith, more)) ∙ sym t, sym ends)
+      by_put (Full seen) is ends t p = grind (arith, stored-more, fulls-more)
 
   pub close_ends : IsPutStage put.Closing script puts i → (calls.CloseEnd ∷ [] ≡ told) × IsPutStage put.Closed script puts (suc i)
   close_ends at = elim tells [
@@ -185,22 +152,13 @@ module _ (script : Content) (takes : Takes) (i : ℕ) {told : List calls.Event}
   pub take_begins :
       (wanted taken : ℕ) → IsTakeStage taking.Between script takes i → wanted ≡ wanted_at script taken → taken ≡ length (all_taken over_before) →
       (calls.TakeBegin wanted ∷ [] ≡ told) × IsTakeStage taking.Taking script takes (suc i)
-  take_begins wanted taken e is_wanted is_taken = elim tells [
-    | inl z ↦ (
-      ap (λ n. calls.TakeBegin n ∷ []) (is_wanted ∙ ap (wanted_at script) is_taken ∙ sym wants_are) ∙ sym z.2,
-      omega (arith, z.1, ap (events_of_takes script.shape) z.0),
-    )
-    | inr y ↦ absurd (elim y [
-      | inl z ↦ let (x, is, less, ends, t) = z in omega (arith, less, e)
-      | inr v ↦ elim v [ inl z ↦ omega (arith, z.2, e) | inr z ↦ omega (arith, z.1, e) ]
-    ])
-  ]
+  take_begins wanted taken e is_wanted is_taken = grind (arith, wants_are)
 
   -- a take ends that took some items, or none
   abbrev Ends : (taken taken' empty empty' : ℕ) → Type 0
   Ends taken taken' empty empty' =
-      ((taken < taken') × (calls.TakeItems (take (taken' - taken) (drop taken script.items)) true ∷ [] ≡ told) × IsTakeStage taking.Between script takes (suc i)) ⊎
-      ((taken' ≤ taken) × (empty < empty') × (calls.TakeEmpty ∷ [] ≡ told) × IsTakeStage taking.Between script takes (suc i))
+      ((taken < taken') × (calls.TakeEnd (calls.Passed (take (taken' - taken) (drop taken script.items)) true) ∷ [] ≡ told) × IsTakeStage taking.Between script takes (suc i)) ⊎
+      ((taken' ≤ taken) × (empty < empty') × (calls.TakeEnd calls.Lacked ∷ [] ≡ told) × IsTakeStage taking.Between script takes (suc i))
 
   -- a take continues or ends, by what is counted
   pub take_goes :
@@ -208,7 +166,7 @@ module _ (script : Content) (takes : Takes) (i : ℕ) {told : List calls.Event}
       taken ≡ length (all_taken over_before) → empty ≡ empties over_before → taken' ≡ length (all_taken over_after) → empty' ≡ empties over_after →
       Ends taken taken' empty empty' ⊎
       ((taken' ≤ taken) × (empty' ≤ empty) ×
-      ((IsTold script.shape takes (suc i) × (calls.TakeClosed ∷ [] ≡ told) × IsTakeStage taking.Told script takes (suc i)) ⊎
+      ((IsTold script.shape takes (suc i) × (calls.TakeEnd calls.Shut ∷ [] ≡ told) × IsTakeStage taking.Told script takes (suc i)) ⊎
       ((¬ IsTold script.shape takes (suc i)) × ([] ≡ told) × IsTakeStage taking.Taking script takes (suc i))))
   take_goes taken taken' empty empty' are (rest, first) at is_taken is_empty now_taken now_empty = elim tells [
     | inl z ↦ absurd (omega (arith, at, z.1))
@@ -243,18 +201,16 @@ module _ (script : Content) (takes : Takes) (i : ℕ) {told : List calls.Event}
 
       -- the items of the take are the script's after those taken before
       part : (x : Take) → over_after ≡ over_before ++ x ∷ [] → take (taken' - taken) (drop taken script.items) ≡ taken_of x
-      part x is =
-          part_is (all_taken over_before) (taken_of x) rest script.items taken (taken' - taken) (ap (λ l. l ++ rest) (sym (more x is)) ∙ first) is_taken
-          (omega (arith, count_more x is))
+      part x is = grind (arith, part_is, more, count_more)
 
       by_take :
           (x : Take) → over_after ≡ over_before ++ x ∷ [] → suc i ≡ events_of_takes script.shape over_after → told ≡ take_answer x ∷ [] → IsTake script.shape (taken_in 0 over_before) x →
           Ends taken taken' empty empty'
       by_take (Item seen items) is ends t one =
-          inl (omega (arith, count_more (Item seen items) is, one.1.some), ap (λ l. calls.TakeItems l true ∷ []) (part (Item seen items) is) ∙ sym t, sym ends)
+          inl (omega (arith, count_more (Item seen items) is, one.1.some), ap (λ l. calls.TakeEnd (calls.Passed l true) ∷ []) (part (Item seen items) is) ∙ sym t, sym ends)
       by_take (ItemAfterClose seen again items) is ends t one = inl (
         omega (arith, count_more (ItemAfterClose seen again items) is, one.2.some),
-        ap (λ l. calls.TakeItems l true ∷ []) (part (ItemAfterClose seen again items) is) ∙ sym t,
+        ap (λ l. calls.TakeEnd (calls.Passed l true) ∷ []) (part (ItemAfterClose seen again items) is) ∙ sym t,
         sym ends,
       )
       by_take (Empty seen) is ends t one = inr (

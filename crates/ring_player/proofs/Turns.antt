@@ -1,12 +1,11 @@
 -- The oracle's answers, with one more event.
 use Rattle.bits_core.specs.Made.{opening_event}
-use Rattle.std.proofs.Common.{◌≡◌, ◌⊎◌, inl, inr, ℕ, zero, suc, ◌+◌, ◌<◌, ◌≤◌, Bool, true, false, Some, List, [], ◌∷◌, ◌++◌, length, refl, ap, sym, subst, ◌∙◌, arith}
+use Rattle.std.proofs.Common.{◌≡◌, ◌⊎◌, inl, inr, ℕ, zero, suc, ◌+◌, ◌<◌, ◌≤◌, Bool, true, false, Some, List, [], ◌∷◌, ◌++◌, length, refl, ap, sym, ◌∙◌, arith}
 use Rattle.std.specs.Prelude.{slice_get, if◌then◌else◌}
 use Rattle.bits_core.specs.declared.events.Side.{Side}
 use Rattle.bits_core.specs.declared.events.Bit.{Bit}
 use Rattle.bits_core.specs.declared.events.Act.TheVariants.{ReadEnd}
 use Rattle.bits_core.specs.declared.events.Access.{Access}
-use Rattle.bits_core.specs.declared.events.Access.TheVariants as access
 use Rattle.bits_core.specs.declared.events.Event.{Event}
 use Rattle.bits_core.specs.History.{is_overlapped}
 use Rattle.bits_core.specs.Memory.{count_below, flicker_count, is_flicker, is_flicker_at}
@@ -65,25 +64,14 @@ more turns before after h e t quiet asked = record {
 
 -- an event that ends no read
 pub turn_quiet : (turns answers : ℕ → Bool) (h h' : List Event) (e : Event) → h' ≡ h ++ e ∷ [] → is_flicker h e ≡ false → IsAtTurn turns h answers → IsAtTurn turns h' answers
-turn_quiet turns answers h h' e is none t =
-    subst (λ (k : List Event). IsAtTurn turns k answers) (sym is) (more turns answers answers h e t (λ f i. refl) (λ f. true_false (sym f ∙ none)))
+turn_quiet turns answers h h' e is none t = grind (arith, more, true_false)
 
 pub turn_begin : (turns answers : ℕ → Bool) (h h' : List Event) (s : Side) (a : Access) → h' ≡ h ++ opening_event s a ∷ [] → IsAtTurn turns h answers → IsAtTurn turns h' answers
-turn_begin turns answers h h' s (access.Read b) is t = turn_quiet turns answers h h' (opening_event s (access.Read b)) is refl t
-turn_begin turns answers h h' s (access.Write b v) is t = turn_quiet turns answers h h' (opening_event s (access.Write b v)) is refl t
-
-read_end : Side → Bit → Bool → Event
-read_end s b v = record { side = s; bit = b; act = ReadEnd v }
+turn_begin turns answers h h' s a is t = grind (arith, turn_quiet)
 
 -- the end of a read
 pub turn_read :
     (turns before after : ℕ → Bool) (s : Side) (b : Bit) (v held : Bool) (h h' : List Event) → h' ≡ h ++ record { side = s; bit = b; act = ReadEnd v } ∷ [] →
     v ≡ (if is_overlapped s b h then before 0 else held) → (is_overlapped s b h ≡ false → (i : ℕ) → after i ≡ before i) →
     (is_overlapped s b h ≡ true → (i : ℕ) → after i ≡ before (i + 1)) → IsAtTurn turns h before → IsAtTurn turns h' after
-turn_read turns before after s b v held h h' is answer not_asked asked t =
-    let e : Event = record { side = s; bit = b; act = ReadEnd v } in
-    subst (λ (k : List Event). IsAtTurn turns k after) (sym is)
-    (more turns before after h e t not_asked (λ f. (λ w ends. same_answer v w ends ∙ (answer ∙ ap (λ (o : Bool). if o then before 0 else held) f), asked f)))
-  where
-    same_answer : (v w : Bool) → ReadEnd v ≡ ReadEnd w → w ≡ v
-    same_answer v w e = cc
+turn_read turns before after s b v held h h' is answer not_asked asked t = grind (arith, more)

@@ -1,5 +1,5 @@
 -- The world after a step of one side.
-use Rattle.std.proofs.Common.{◌≡◌, ◌⊎◌, inl, inr, ℕ, ◌+◌, ◌-◌, ◌<◌, ◌≤◌, zero, suc, get_or, min, Bool, true, false, Option, Some, None, Result, Ok, Err, List, [], ◌∷◌, ◌++◌, length, take, drop, append_assoc, append-nil, refl, sym, ap, subst, ◌∙◌, arith}
+use Rattle.std.proofs.Common.{◌≡◌, ◌⊎◌, inl, inr, ℕ, ◌+◌, ◌-◌, ◌<◌, ◌≤◌, zero, suc, get_or, min, Bool, true, Option, Some, None, Result, List, [], ◌∷◌, ◌++◌, length, take, drop, append_assoc, append-nil, refl, sym, ap, subst, ◌∙◌, arith}
 use Rattle.std.specs.Prelude.{if◌then◌else◌, IfOk, OnErr, OnOk, ◌↔◌, replicate, slice_index_or}
 use Rattle.bits_core.specs.declared.events.Side.{Side}
 use Rattle.bits_core.specs.declared.events.Side.TheVariants.{P, C}
@@ -39,12 +39,10 @@ abbrev pub Grown : Content → Side → (h h' : List Event) → Type 0
 Grown script s h h' = ((e : Event) × (h' ≡ h ++ e ∷ []) × (e.side ≡ s) × (¬ IsDone script s h)) ⊎ (h' ≡ h)
 
 grown_by : (script : Content) (s : Side) (h h' : List Event) (moved : Bool) → IsMove script s moved h h' → Grown script s h h'
-grown_by script s h h' true m = inl m
-grown_by script s h h' false m = inr m.0
+grown_by script s h h' moved m = grind arith
 
 pub grown : {E : Type 0} (script : Content) (s : Side) (h h' : List Event) (r : Result Bool E) → IfOk r (λ moved. IsMove script s moved h h') → OnErr r (h' ≡ h) → Grown script s h h'
-grown script s h h' (Ok moved) ok err = grown_by script s h h' moved ok
-grown script s h h' (Err e) ok err = inr err
+grown script s h h' r ok err = grind (arith, grown_by)
 
 -- the other side's state is unchanged
 playing_other :
@@ -53,19 +51,11 @@ playing_other :
 playing_other script s h h' due stands (inl (e, is, by, n)) p =
     let open_same : open_access (other s) (h ++ e ∷ []) ≡ open_access (other s) h =
     open_changes (other s) h e ∙ ap (λ t. if t then begun_by e else open_access (other s) h) (not_by s e by) in
-    subst (λ (t : List Event). IsPlaying (other s) t due stands) (sym is) (record {
-      list = p.list;
-      there = subst (stands p.list) (sym open_same) p.there;
-      own_is = own_other s h e by ∙ p.own_is ∙ ap (so_far (other s) p.list) (sym open_same);
-      is_due = λ a f. p.is_due a (sym open_same ∙ f);
-    })
+    grind (arith, own_other)
 playing_other script s h h' due stands (inr is) p = subst (λ (t : List Event). IsPlaying (other s) t due stands) (sym is) p
 
 moves_grown : (script : Content) (s : Side) (h h' : List Event) → Grown script s h h' → AreMoves script (event_sides h) [] h → AreMoves script (event_sides h') [] h'
-moves_grown script s h h' (inl (e, is, by, not)) m =
-    let m' : AreMoves script (event_sides h ++ e.side ∷ []) [] (h ++ e ∷ []) = moves-more script (event_sides h) e.side [] h e m (subst (λ (t : Side). ¬ IsDone script t h) (sym by) not) refl in
-    subst (λ (t : List Event). AreMoves script (event_sides t) [] t) (sym is) (subst (λ (l : List Side). AreMoves script l [] (h ++ e ∷ [])) (sym (sides-more h e)) m')
-moves_grown script s h h' (inr is) m = subst (λ (t : List Event). AreMoves script (event_sides t) [] t) (sym is) m
+moves_grown script s h h' h1 m = grind (arith, moves-more, sides-more)
 
 pub producer_steps :
     {E : Type 0} (script : Content) (m m' : MemoryState) (ps ps' cs : Content) (pd pd' cd : Option Access) (pt pt' ct : Stands) (a a' : ℕ → Bool) (r : Result Bool E) → IsWorld script m ps cs pd cd pt ct a →
@@ -104,17 +94,7 @@ consumer_steps script m m' ps cs cs' pd cd cd' pt ct ct' a a' r w shape same pla
 pub plays_of :
     (script : Content) (m : MemoryState) (ps cs : Content) (pd cd : Option Access) (pt ct : Stands) (a : ℕ → Bool) → IsWorld script m ps cs pd cd pt ct a →
     IsLawful m.shape m.events → IsProgram ps P (subhistory P m.events) → IsProgram cs C (subhistory C m.events) → Plays script (event_sides m.events) m.events
-plays_of script m ps cs pd cd pt ct a w lawful puts takes =
-    let lawful' : IsLawful script.shape m.events = subst (λ t. IsLawful t m.events) w.shape lawful in
-    record {
-      played = record {
-        lawful = lawful';
-        puts = subst (λ (t : Content). IsProgram t P (subhistory P m.events)) w.put_script_is puts;
-        takes = subst (λ (t : Content). IsProgram t C (subhistory C m.events)) w.take_script_is takes;
-        answers = in_turn script.shape m.events lawful' script.oracle a w.oracle;
-      };
-      moves = w.moves;
-    }
+plays_of script m ps cs pd cd pt ct a w lawful puts takes = grind (arith, in_turn)
 
 -- the laws of every play hold for it
 pub is_play : EveryPlayHolds → EveryPlayFills → (script : Content) (letters : List Side) (h : List Event) → Plays script letters h → IsPlayOf script letters h
@@ -123,34 +103,18 @@ is_play holds fills script letters h plays = record { plays = plays; headline = 
 pub letters_of :
     {E : Type 0} (script script' : Content) (s : Side) (h h' : List Event) (r : Result Bool E) → script' ≡ script → IfOk r (λ moved. IsMove script s moved h h') → IsPlayed script' h' →
     OnOk r ((letters : List Side) → Plays script letters h → Plays script' (letters ++ s ∷ []) h')
-letters_of script script' s h h' (Ok moved) same m played = λ letters p.
-    (record { played = played; moves = subst (λ (t : Content). AreMoves t (letters ++ s ∷ []) [] h') (sym same) (moves_step script letters s h h' moved p.moves m) })
-letters_of script script' s h h' (Err e) same m played = tt
+letters_of script script' s h h' r same m played = grind (arith, moves_step)
 
 pub new_playing : (s : Side) (due : Option Access) (stands : Stands) → stands [] None → IsPlaying s [] due stands
-new_playing s due stands there = record { list = []; there = there; own_is = refl; is_due = λ a e. none_some a e }
-  where
-    none_some : (a : Access) → None ≡ Some a → due ≡ Some a
-    none_some a e = absurd (cc)
+new_playing s due stands there = grind arith
 
 pub new_turn : (turns answers : ℕ → Bool) → ((i : ℕ) → answers i ≡ turns i) → IsAtTurn turns [] answers
-new_turn turns answers same = record { answered = λ p e v at. absurd (none_some at); left = λ i. same i ∙ ap turns (omega arith) }
-  where
-    none_some : {e : Event} → None ≡ Some e → ⊥
-    none_some e = absurd (cc)
+new_turn turns answers same = grind arith
 
 pub new_world :
     (script : Content) (m : MemoryState) (ps cs : Content) (pd cd : Option Access) (pt ct : Stands) (a : ℕ → Bool) → m.shape ≡ script.shape → m.events ≡ [] → ps ≡ script → cs ≡ script →
     pt [] None → ct [] None → ((i : ℕ) → a i ≡ turn script.oracle i) → IsWorld script m ps cs pd cd pt ct a
-new_world script m ps cs pd cd pt ct a shape empty p q puts takes oracle = record {
-  shape = shape;
-  put_script_is = p;
-  take_script_is = q;
-  puts = subst (λ (t : List Event). IsPlaying P t pd pt) (sym empty) (new_playing P pd pt puts);
-  takes = subst (λ (t : List Event). IsPlaying C t cd ct) (sym empty) (new_playing C cd ct takes);
-  oracle = subst (λ (t : List Event). IsAtTurn (turn script.oracle) t a) (sym empty) (new_turn (turn script.oracle) a oracle);
-  moves = subst (λ (t : List Event). AreMoves script (event_sides t) [] t) (sym empty) tt;
-}
+new_world script m ps cs pd cd pt ct a shape empty p q puts takes oracle = grind (arith, new_playing, new_turn)
 
 -- ---- what was taken, and whether a take returned Closed
 
@@ -159,8 +123,7 @@ pub taken_of :
     TakenSoFar cs.shape (so_far C p.list (open_access C h)) taken told empty → (takes : Takes) → FollowsTakes script.shape h takes →
     (taken ≡ items_taken_in script.shape h takes) × ((told ≡ true) ↔ ToldIn script.shape h takes)
 taken_of script cs h due stands taken told empty same p t takes follows =
-    let u : TakenSoFar script.shape (subhistory C h) taken told empty =
-    subst (λ (x : Content). TakenSoFar x.shape (subhistory C h) taken told empty) same (subst (λ l. TakenSoFar cs.shape l taken told empty) (sym p.own_is) t) in
+    let u : TakenSoFar script.shape (subhistory C h) taken told empty = grind arith in
     let mine : FollowsTakes script.shape h u.takes = record { are = u.are; events = u.begins } in
     let (items, told_there) = items_taken_are_read script.shape h u.takes takes mine follows in
     let (items', told_back) = items_taken_are_read script.shape h takes u.takes follows mine in
@@ -172,8 +135,7 @@ pub ended_of :
     (script cs : Content) (h : List Event) (due : Option Access) (stands : Stands) (taken : List ℕ) (told : Bool) (empty : ℕ) → cs ≡ script → (p : IsPlaying C h due stands) →
     TakenSoFar cs.shape (so_far C p.list (open_access C h)) taken told empty → (takes : Takes) → FollowsTakes script.shape h takes → taken ≡ all_taken (takes_over_in script.shape h takes)
 ended_of script cs h due stands taken told empty same p t takes follows =
-    let u : TakenSoFar script.shape (subhistory C h) taken told empty =
-    subst (λ (x : Content). TakenSoFar x.shape (subhistory C h) taken told empty) same (subst (λ l. TakenSoFar cs.shape l taken told empty) (sym p.own_is) t) in
+    let u : TakenSoFar script.shape (subhistory C h) taken told empty = grind arith in
     let mine : FollowsTakes script.shape h u.takes = record { are = u.are; events = u.begins } in
     sym u.ended ∙ ap all_taken (calls_over_are_read_takes script.shape h u.takes takes mine follows)
 
@@ -186,8 +148,7 @@ front_of :
     TakenSoFar cs.shape (so_far C t.list (open_access C h)) taken told empty → HoldsHeadline script h → IsPrefix taken put
 front_of script ps cs h pd cd pt ct put taken kept told empty same_p same_c p t puts takes holds =
     let u : PutSoFar script.shape (subhistory P h) put kept = subst (λ (x : Content). PutSoFar x.shape (subhistory P h) put kept) same_p (subst (λ l. PutSoFar ps.shape l put kept) (sym p.own_is) puts) in
-    let v : TakenSoFar script.shape (subhistory C h) taken told empty =
-    subst (λ (x : Content). TakenSoFar x.shape (subhistory C h) taken told empty) same_c (subst (λ l. TakenSoFar cs.shape l taken told empty) (sym t.own_is) takes) in
+    let v : TakenSoFar script.shape (subhistory C h) taken told empty = grind arith in
     let (rest, is) = (holds u.puts v.takes (record { are = u.are; events = u.begins }) (record { are = v.are; events = v.begins })).prefix (length h) in
     let put_so : items_put script.shape first_count u.puts.puts (clock P h (length h)) ≡ put = ap (items_put script.shape first_count u.puts.puts) (clock_end P h) ∙ u.items in
     let taken_so : items_taken script.shape first_count v.takes.takes (clock C h (length h)) ≡ taken = ap (items_taken script.shape first_count v.takes.takes) (clock_end C h) ∙ v.items in
@@ -243,8 +204,7 @@ pub within_all : (xs : List LetterRun) (i : ℕ) → i < length xs → length (s
 unfolding spelled
 within_all [] i h = absurd (omega (arith, h))
 within_all (x ∷ xs) zero h = omega (arith, length-append (replicate x.count x.side) (spelled xs), length-replicate x.count x.side)
-within_all (x ∷ xs) (suc i) h =
-    omega (arith, length-append (replicate x.count x.side) (spelled xs), length-append (replicate x.count x.side) (spelled (take i xs)), within_all xs i (omega (arith, h)))
+within_all (x ∷ xs) (suc i) h = grind (arith, length-append, within_all xs i (omega (arith, h)))
 
 pub spelled-none : spelled [] ≡ []
 unfolding spelled
@@ -255,10 +215,7 @@ pub take-none : (k : ℕ) → take k (spelled []) ≡ []
 take-none k = ap (λ (l : List Side). take k l) spelled-none ∙ take_all k [] (omega arith)
 
 take_run : (left c : ℕ) (s : Side) → take left (replicate c s) ≡ replicate (min c left) s
-take_run left c s = elim (cases_lt c left) [
-  | inl h ↦ take_all left (replicate c s) (omega (arith, h, length-replicate c s)) ∙ ap (λ (n : ℕ). replicate n s) (omega (arith, h))
-  | inr h ↦ take-replicate left c s h ∙ ap (λ (n : ℕ). replicate n s) (omega (arith, h))
-]
+take_run left c s = grind (arith, cases_lt, take_all, length-replicate, take-replicate)
 
 take-more : (k : ℕ) (xs : List Side) (c : ℕ) (s : Side) (left count : ℕ) → left ≡ k - length xs → count ≡ min c left → take k (xs ++ replicate c s) ≡ take k xs ++ replicate count s
 take-more k xs c s left count l e = elim (cases_lt (length xs) k) [
@@ -266,9 +223,7 @@ take-more k xs c s left count l e = elim (cases_lt (length xs) k) [
       let all : take k xs ≡ xs = take_all k xs (omega (arith, h)) in
       let rest : take left (replicate c s) ≡ replicate count s = take_run left c s ∙ ap (λ (n : ℕ). replicate n s) (sym e) in
       ap (λ (n : ℕ). take n (xs ++ replicate c s)) (omega (arith, h, l)) ∙ take-append-add xs (replicate c s) left ∙ ap (λ (t : List Side). xs ++ t) rest ∙ ap (λ (t : List Side). t ++ replicate count s) (sym all)
-  | inr h ↦
-      let none : 0 ≡ count = omega (arith, h, l, e) in
-      take-append-le k xs (replicate c s) h ∙ sym (append-nil (take k xs)) ∙ ap (λ (n : ℕ). take k xs ++ replicate n s) none
+  | inr h ↦ grind (arith, take-append-le, append-nil)
 ]
 
 left-more : (k : ℕ) (xs : List Side) (c : ℕ) (s : Side) (left count : ℕ) → left ≡ k - length xs → count ≡ min c left → left - count ≡ k - length (xs ++ replicate c s)
@@ -292,7 +247,3 @@ one_run_more runs i k left count l left_is least =
 -- after the last run they are all letters
 pub all_runs : (runs : List LetterRun) (i : ℕ) (letters : List Side) → i ≡ length runs → spelled runs ≡ letters → spelled (take i runs) ≡ letters
 all_runs runs i letters end all = ap (λ i. spelled (take i runs)) end ∙ ap spelled (take-length runs) ∙ all
-
-pub ok_is : {A E : Type 0} {G : Type 0} (r : Result A E) (a : A) → r ≡ Ok a → OnOk r G → G
-ok_is (Ok b) a e g = g
-ok_is (Err x) a e g = absurd (cc)

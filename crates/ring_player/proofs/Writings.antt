@@ -4,12 +4,10 @@ use Rattle.std.specs.Prelude.{nat_lt}
 use Rattle.std.proofs.lemmas.Bool.{ltb-false}
 use Rattle.bits_core.specs.declared.events.Side.TheVariants.{P}
 use Rattle.bits_core.specs.declared.events.Access.{Access}
-use Rattle.bits_core.specs.declared.events.Access.TheVariants as access
 use Rattle.bits_core.specs.declared.events.Bit.TheVariants as bit
 use Rattle.bits_core.specs.declared.shapes.Shape.{Shape}
 use Rattle.bits_core.specs.Shape.{batch_of, modulus_of, width_of}
 use Rattle.bits_core.specs.Made.{Made, Read, Write, answered, events_of, IsPrefix, opening_event}
-use Rattle.register_core.specs.ScanState.{row_read_by, zero_reads}
 use Rattle.ring_core.specs.Counts.{batch_phrase, Count, first_count}
 use Rattle.ring_core.specs.Items.{all_put, events_in, items_put}
 use Rattle.ring_core.specs.Over.{fulls, puts_over}
@@ -23,11 +21,10 @@ use Rattle.ring_player.specs.Plays.{AreAttempts, ArePutsOf, offered}
 use Rattle.ring_player.specs.SoFar.{PutSoFar}
 use Rattle.ring_core.proofs.Machines.Following.{events_of-append, length-events}
 use Rattle.ring_core.proofs.CountRow.{past_is}
-use Rattle.ring_core.proofs.Readings.Over.{puts_total}
+use Rattle.ring_core.proofs.Readings.Over.{calls_all_over, calls_cut_over, puts_total}
 use Rattle.ring_player.proofs.Headlines.{drop-drop, parts}
 use Rattle.ring_player.proofs.Moves.{begins-trans, no_open, so_far_begins, so_far_length}
 use Rattle.ring_player.proofs.Nexts.{IsNextPut, NextPut}
-use Rattle.ring_player.proofs.Overs.{calls_all_over, calls_cut_over}
 use Rattle.ring_player.proofs.Puttings.{calls_asked, next_in}
 use Rattle.ring_player.proofs.Written.{begun-append, digits-append, put_begun, put_nothing}
 use Rattle.ring_core.proofs.LawLemmas.{counts_are_written_numbers}
@@ -35,41 +32,24 @@ use Rattle.ring_core.proofs.LawLemmas.{counts_are_written_numbers}
 -- ---- one more access
 
 digit_more : (a : Access) (v : Bool) → digits_in (answered a v ∷ []) ≡ digits_by (Some a)
-digit_more (access.Read b) v = refl
-digit_more (access.Write (bit.Cell j i) w) v = refl
-digit_more (access.Write (bit.S i) w) v = refl
-digit_more (access.Write (bit.R i) w) v = refl
-digit_more (access.Write bit.X w) v = refl
+digit_more a v = grind arith
 
 begun_more : (w n seen : ℕ) (a : Access) (v : Bool) → items_begun w n seen (answered a v ∷ []) ≡ put_once (Some a) (n / w) seen
-begun_more w n seen (access.Read b) v = refl
-begun_more w n seen (access.Write (bit.Cell j i) u) v = refl
-begun_more w n seen (access.Write (bit.S i) u) v = refl
-begun_more w n seen (access.Write (bit.R i) u) v = refl
-begun_more w n seen (access.Write bit.X u) v = refl
+begun_more w n seen a v = grind arith
 
 -- what is begun with one more access
 begun_with : (w : ℕ) (list : List Made) (a : Access) (v : Bool) → items_begun w 0 0 (list ++ answered a v ∷ []) ≡ put_once (Some a) (digits_in list / w) (items_begun w 0 0 list)
-begun_with w list a v =
-    let none : 0 + digits_in list ≡ digits_in list = omega arith in
-    begun-append w 0 0 list (answered a v ∷ []) ∙ begun_more w (0 + digits_in list) (items_begun w 0 0 list) a v ∙ ap (λ n. put_once (Some a) (n / w) (items_begun w 0 0 list)) none
+begun_with w list a v = grind (arith, begun-append, begun_more)
 
 pub begins_writing :
     (script : Content) (digits put : ℕ) (list : List Made) (a : Access) (due : Option Access) (width now : ℕ) → due ≡ Some a → width ≡ width_of script.shape → now ≡ put_once due (digits / width) put →
     HasWritten script digits put list None → HasWritten script digits now list (Some a)
-begins_writing script digits put list a due width now due_is width_is now_is s = record {
-  digits_are = s.digits_are;
-  put_is = now_is ∙ ap (λ d. put_once d (digits / width) put) due_is ∙ ap₂ (λ d w. put_once (Some a) (d / w) put) s.digits_are width_is ∙ ap (put_once (Some a) (digits_in list / width_of script.shape)) s.put_is
-      ∙ sym (begun_with (width_of script.shape) list a true);
-}
+begins_writing script digits put list a due width now due_is width_is now_is s = grind (arith, begun_with)
 
 pub ends_writing :
     (script : Content) (digits put : ℕ) (list : List Made) (a : Access) (v : Bool) (due : Option Access) (more : ℕ) → due ≡ Some a → more ≡ digits_by due → HasWritten script digits put list (Some a) →
     HasWritten script (digits + more) put (list ++ answered a v ∷ []) None
-ends_writing script digits put list a v due more due_is more_is s = record {
-  digits_are = ap₂ (λ d m. d + m) s.digits_are (more_is ∙ ap digits_by due_is ∙ sym (digit_more a v)) ∙ sym (digits-append list (answered a v ∷ []));
-  put_is = s.put_is ∙ begun_with (width_of script.shape) list a true ∙ sym (begun_with (width_of script.shape) list a v);
-}
+ends_writing script digits put list a v due more due_is more_is s = grind (arith, digit_more, digits-append, begun_with)
 
 -- ---- no more than there are accesses
 
@@ -82,28 +62,15 @@ digits_few (Write (bit.R i) v ∷ list) = omega (arith, digits_few list)
 digits_few (Write bit.X v ∷ list) = omega (arith, digits_few list)
 
 pub digit_few : (due : Option Access) → digits_by due ≤ 1
-digit_few None = omega arith
-digit_few (Some (access.Read b)) = omega arith
-digit_few (Some (access.Write (bit.Cell j i) v)) = omega arith
-digit_few (Some (access.Write (bit.S i) v)) = omega arith
-digit_few (Some (access.Write (bit.R i) v)) = omega arith
-digit_few (Some (access.Write bit.X v)) = omega arith
+digit_few due = grind arith
 
 fulls_few : (shape : Shape) (c : Count) (list : List puts.Put) → fulls list ≤ length (put_phrases shape c list)
 fulls_few shape c [] = omega arith
-fulls_few shape c (Stored u items ∷ list) =
-    omega (arith, fulls_few shape (stored_after shape c (Stored u items)) list, length-append (put_phrase shape c (Stored u items)) (put_phrases shape (stored_after shape c (Stored u items)) list))
-fulls_few shape c (Full u ∷ list) =
-    omega (
-      arith,
-      fulls_few shape (stored_after shape c (Full u)) list,
-      length-append (put_phrase shape c (Full u)) (put_phrases shape (stored_after shape c (Full u)) list),
-      length-append (zero_reads (row_read_by P) u) (Read (row_read_by P u) true ∷ []),
-    )
+fulls_few shape c (Stored u items ∷ list) = grind (arith, length-append, fulls_few shape (stored_after shape c (Stored u items)) list)
+fulls_few shape c (Full u ∷ list) = grind (arith, length-append, fulls_few shape (stored_after shape c (Full u)) list)
 
 pub full_few : (script : Content) (p : ProducerState) (kept : PutTally) (list : List Made) (o : Option Access) → PutActorStands script p kept list o → kept.full ≤ length list
-full_few script p kept list o s =
-    omega (arith, s.made.filled, fulls_few script.shape first_count s.calls.puts, s.made.long, length-append (put_phrases script.shape first_count s.calls.puts) (close_phrase s.calls.closes))
+full_few script p kept list o s = grind (arith, fulls_few, length-append)
 
 -- ---- what is put are the first of the script's items
 
@@ -111,10 +78,7 @@ begin_take : (xs ys : List ℕ) → IsPrefix xs ys → xs ≡ take (length xs) y
 begin_take [] [] p = refl
 begin_take [] (y ∷ ys) p = refl
 begin_take (x ∷ xs) [] (r, e) = absurd (cc)
-begin_take (x ∷ xs) (y ∷ ys) (r, e) =
-    let tails : xs ++ r ≡ ys = cc in
-    let head : x ≡ y = cc in
-    ap (λ l. x ∷ l) (begin_take xs ys (r, tails)) ∙ ap (λ z. z ∷ take (length xs) ys) head
+begin_take (x ∷ xs) (y ∷ ys) (r, e) = grind (arith, begin_take xs ys (r, cc))
 
 put_first : (shape : Shape) (c : Count) (list : List puts.Put) (t : ℕ) → IsPrefix (items_put shape c list t) (all_put list)
 put_first shape c [] t = ([], refl)
@@ -151,8 +115,7 @@ attempts_first script n (Stored seen items ∷ list) (l, is, m) =
 attempts_first script n (Full seen ∷ list) (l, is, m) = attempts_first script n list m
 
 none_dropped : (xs : List ℕ) → drop 0 xs ≡ xs
-none_dropped [] = refl
-none_dropped (x ∷ xs) = refl
+none_dropped xs = grind arith
 
 -- ---- what was put so far
 
@@ -182,14 +145,7 @@ reading_so_far script digits put kept list o s more asked begins events ended ov
     let first : IsPrefix (items_put shape first_count more.puts t) script.items =
     begins-trans (items_put shape first_count more.puts t) (all_put more.puts) script.items (put_first shape first_count more.puts t)
     (subst (IsPrefix (all_put more.puts)) (none_dropped script.items) (attempts_first script 0 more.puts asked.attempts)) in
-    record {
-      puts = more;
-      are = asked.are;
-      begins = events;
-      items = begin_take (items_put shape first_count more.puts t) script.items first ∙ ap (λ n. take n script.items) (sym count);
-      over = ap fulls over ∙ sym full;
-      stored = ap (stored_in 0) over ∙ sym stored;
-    }
+    grind (arith, begin_take)
 
 pub put_so_far :
     (script : Content) (p : ProducerState) (kept : PutTally) (digits put : ℕ) (list : List Made) (o due : Option Access) → PutActorStands script p kept list o →
@@ -225,8 +181,7 @@ put_so_far script p kept digits put list o due s h next is_due = by_due due is_d
     over_more : (c : Call) (more : Puts) → HasCallMore shape c calls more → length list < length (put_program shape more) → puts_over shape first_count more.puts (length (so_far P list o)) ≡ calls.puts
     over_more (Put items) more (x, of, more_is, are, still) longer =
         let t : ℕ = length (so_far P list o) in
-        let size : length (put_program shape more) ≡ length (put_phrases shape first_count (calls.puts ++ x ∷ [])) =
-        omega (arith, ap (λ (m : Puts). length (put_program shape m)) more_is, ap length (append-nil (put_phrases shape first_count (calls.puts ++ x ∷ [])))) in
+        let size : length (put_program shape more) ≡ length (put_phrases shape first_count (calls.puts ++ x ∷ [])) = grind (arith, append-nil) in
         ap (λ (m : Puts). puts_over shape first_count m.puts t) more_is ∙ calls_cut_over (put_phrase shape) (stored_after shape) (put_phrases shape) (puts_total shape) first_count calls.puts x t come (omega (arith, longer, size, so_far_length P list o))
     over_more Close more (more_is, are, still) longer =
         let t : ℕ = length (so_far P list o) in

@@ -1,5 +1,5 @@
 -- The items that an actor has put, by the digits and the counts that it wrote.
-use Rattle.std.proofs.Common.{◌≡◌, ◌⊎◌, inl, inr, ℕ, zero, suc, ◌+◌, ◌-◌, ◌*◌, ◌/◌, ◌%◌, ◌≤◌, Bool, true, false, cond, List, [], ◌∷◌, ◌++◌, length, refl, sym, ap, ap₂, subst, ◌∙◌, arith, append_assoc, append-nil, length-append}
+use Rattle.std.proofs.Common.{◌≡◌, ◌⊎◌, inl, inr, ℕ, zero, suc, ◌+◌, ◌-◌, ◌*◌, ◌/◌, ◌≤◌, Bool, true, false, cond, List, [], ◌∷◌, ◌++◌, length, refl, sym, ap, ap₂, subst, ◌∙◌, arith, append_assoc, append-nil, length-append}
 use Rattle.std.specs.Prelude.{nat_lt}
 use Rattle.std.proofs.lemmas.Bool.{lt-ltb, le-ltb}
 use Rattle.std.proofs.Math.Nat.{add-mul, mul-div_cancel}
@@ -7,12 +7,12 @@ use Rattle.bits_core.specs.declared.events.Side.TheVariants.{P}
 use Rattle.bits_core.specs.declared.events.Bit.{Bit}
 use Rattle.bits_core.specs.declared.events.Bit.TheVariants as bit
 use Rattle.bits_core.specs.declared.shapes.Shape.{Shape}
-use Rattle.bits_core.specs.Shape.{capacity_of, width_of}
+use Rattle.bits_core.specs.Shape.{width_of}
 use Rattle.bits_core.specs.Made.{Made, Read, Write, IsPrefix}
 use Rattle.bits_core.proofs.Places.{prefix_no_longer}
 use Rattle.register_core.specs.Row.{RowWrite, row_bit, writes_in}
 use Rattle.register_core.specs.ScanState.{scan_phrase, row_read_by, zero_reads}
-use Rattle.register_core.specs.Word.{digit_writes, word_write}
+use Rattle.register_core.specs.Word.{digit_writes}
 use Rattle.ring_core.specs.Counts.{Count, batch_phrase, count_bits, IsCount}
 use Rattle.ring_core.specs.Items.{events_in, items_put}
 use Rattle.ring_core.specs.Puts.{ArePuts, Full, Put, Stored, close_phrase, put_phrases, stored_after, words_phrase}
@@ -36,9 +36,7 @@ digits-append (Write bit.X v ∷ xs) ys = digits-append xs ys
 pub begun-append : (w n seen : ℕ) (xs ys : List Made) → items_begun w n seen (xs ++ ys) ≡ items_begun w (n + digits_in xs) (items_begun w n seen xs) ys
 begun-append w n seen [] ys = let none : n ≡ n + 0 = omega arith in ap (λ t. items_begun w t seen ys) none
 begun-append w n seen (Read b v ∷ xs) ys = begun-append w n seen xs ys
-begun-append w n seen (Write (bit.Cell j i) v ∷ xs) ys =
-    let one : 1 + n + digits_in xs ≡ n + (1 + digits_in xs) = omega arith in
-    begun-append w (1 + n) seen xs ys ∙ ap (λ t. items_begun w t (items_begun w (1 + n) seen xs) ys) one
+begun-append w n seen (Write (bit.Cell j i) v ∷ xs) ys = grind (arith, begun-append w (1 + n) seen xs ys)
 begun-append w n seen (Write (bit.S i) v ∷ xs) ys = begun-append w n (n / w) xs ys
 begun-append w n seen (Write (bit.R i) v ∷ xs) ys = begun-append w n seen xs ys
 begun-append w n seen (Write bit.X v ∷ xs) ys = begun-append w n seen xs ys
@@ -105,18 +103,11 @@ word_digits j item (suc n) =
 
 words_quiet : (shape : Shape) (n : ℕ) (items : List ℕ) → NoCounts (words_phrase shape n items)
 words_quiet shape n [] = tt
-words_quiet shape n (item ∷ items) =
-    no_counts-append (word_write (width_of shape) (n % capacity_of shape) item) (words_phrase shape (suc n) items) (word_quiet (n % capacity_of shape) item (width_of shape)) (words_quiet shape (suc n) items)
+words_quiet shape n (item ∷ items) = grind (arith, no_counts-append, word_quiet, words_quiet shape (suc n) items)
 
 words_digits : (shape : Shape) (n : ℕ) (items : List ℕ) → digits_in (words_phrase shape n items) ≡ length items * width_of shape
 words_digits shape n [] = omega arith
-words_digits shape n (item ∷ items) =
-    let one : width_of shape + length items * width_of shape ≡ suc (length items) * width_of shape = suc_times (length items) (width_of shape) in
-    digits-append (word_write (width_of shape) (n % capacity_of shape) item) (words_phrase shape (suc n) items)
-    ∙ ap₂ (λ a b. a + b) (word_digits (n % capacity_of shape) item (width_of shape)) (words_digits shape (suc n) items) ∙ one
-  where
-    suc_times : (a b : ℕ) → b + a * b ≡ suc a * b
-    suc_times a b = let one : b + a * b ≡ 1 * b + a * b = omega arith in let shift : 1 + a ≡ suc a = omega arith in one ∙ sym (add-mul 1 a b) ∙ ap (λ t. t * b) shift
+words_digits shape n (item ∷ items) = grind (arith, digits-append, word_digits, add-mul, words_digits shape (suc n) items)
 
 -- the writes of a count
 count_digits : (ws : List RowWrite) → digits_in (writes_in (row_bit P) ws) ≡ 0
@@ -156,8 +147,7 @@ begin_writes row (x ∷ made) (w ∷ ws) (r, e) =
     (w ∷ vs, ap (λ l. x ∷ l) f ∙ ap (λ z. z ∷ writes_in row vs) head)
 
 close_quiet : (b : Bool) → NoCounts (close_phrase b)
-close_quiet true = tt
-close_quiet false = tt
+close_quiet b = grind arith
 
 begin_quiet : (made more : List Made) → NoCounts more → IsPrefix made more → NoCounts made
 begin_quiet made more p (r, e) = no_counts-first made r (subst NoCounts (sym e) p)
@@ -169,9 +159,7 @@ pub put_begun :
     (shape : Shape) (c : Count) (puts : List Put) (close : Bool) (made : List Made) (t : ℕ) → IsCount shape c → ArePuts shape c.number puts →
     IsPrefix made (put_phrases shape c puts ++ close_phrase close) → t ≤ 2 * length made → 2 * length made ≤ t + 1 →
     items_begun (width_of shape) (c.number * width_of shape) c.number made ≡ c.number + length (items_put shape c puts t)
-put_begun shape c [] close made t is p begins low high =
-    let none : c.number ≡ c.number + 0 = omega arith in
-    none_begun (width_of shape) (c.number * width_of shape) c.number made (begin_quiet made (close_phrase close) (close_quiet close) begins) ∙ none
+put_begun shape c [] close made t is p begins low high = grind (arith, none_begun, begin_quiet, close_quiet)
 put_begun shape c (Full u ∷ puts) close made t is p begins low high =
     by_split (put_begun shape c puts close) (split_front scan rest made (subst (IsPrefix made) (append_assoc scan (put_phrases shape c puts) (close_phrase close)) begins))
   where
@@ -265,11 +253,7 @@ put_begun shape c (Stored u items ∷ puts) close made t is p begins low high =
         (more : List Made) → made ≡ front ++ more → 1 ≤ length more → (l : List ℕ) → items_put shape next puts (t - events_in (front ++ batch)) ≡ l →
         (n : ℕ) → items_begun w (c.number * w + digits_in front) (items_begun w (c.number * w) c.number front) more ≡ n → n ≡ c.number + (length items + length l) →
         items_begun w (c.number * w) c.number made ≡ c.number + length (items_put shape c (Stored u items ∷ puts) t)
-    begun_here more made_is some l f n e g =
-        let size : length made ≡ length front + length more = ap length made_is ∙ length-append front more in
-        ap (items_begun w (c.number * w) c.number) made_is ∙ begun-append w (c.number * w) c.number front more ∙ e ∙ g
-        ∙ ap (λ m. c.number + m) (sym (length-append items l))
-        ∙ ap (λ (m : List ℕ). c.number + length m) (sym (put_is true (lt-ltb (events_in front) t (omega (arith, high, size, some))) l f))
+    begun_here more made_is some l f n e g = grind (arith, length-append, begun-append, lt-ltb, put_is)
 
     by_rows : (more : List Made) → made ≡ front ++ more → IsPrefix more batch → (vs : List RowWrite) → more ≡ writes_in (row_bit P) vs →
         items_begun w (c.number * w) c.number made ≡ c.number + length (items_put shape c (Stored u items ∷ puts) t)

@@ -14,7 +14,6 @@ use Rattle.ring_core.specs.ConsumerCalls.{ConsumerStands, ends_closed}
 use Rattle.ring_core.specs.ConsumerState.{ConsumerState, is_taking}
 use Rattle.ring_core.specs.ProducerCalls.{ProducerStands}
 use Rattle.ring_core.specs.ProducerState.{ProducerState, Call, Put, Close, call_of}
-use Rattle.ring_core.specs.declared.replies.TakeBatchReply.{TakeBatchReply}
 use Rattle.ring_core.specs.declared.replies.TakeBatchReply.TheVariants as taken
 use Rattle.ring_core.specs.declared.replies.BatchReply.{BatchReply}
 use Rattle.ring_core.specs.declared.replies.BatchReply.TheVariants as reply
@@ -75,10 +74,6 @@ full_in_reply (Some reply.Closed) = 0
 pub record PutTally : Type 0 where
   pub stored : ℕ
   pub full : ℕ
-
--- the tally after this reply
-abbrev pub after_reply : PutTally → Option BatchReply → PutTally
-after_reply kept reply = record { stored = kept.stored + stored_in_reply reply; full = kept.full + full_in_reply reply }
 
 -- the puts that are over are attempts at the script's items, and are counted by the tally; their accesses are no more than these
 pub record ArePutsMade (script : Content) (kept : PutTally) (list : List Made) (calls : Puts) : Type 0 where
@@ -144,13 +139,6 @@ pub record HasWritten (script : Content) (digits put : ℕ) (list : List Made) (
   pub put_is : put ≡ items_begun (width_of script.shape) 0 0 (with_open list opened)
 
 -- ---- the consumer's actor
-
--- how many takes found the ring empty, by a reply
-abbrev pub empty_in : Option TakeBatchReply → ℕ
-empty_in None = 0
-empty_in (Some (taken.Taken count)) = 0
-empty_in (Some taken.Empty) = 1
-empty_in (Some taken.Closed) = 0
 
 -- it stands after these accesses, with this one open
 pub record TakeActorStands (script : Content) (p : ConsumerState) (taken : List ℕ) (told : Bool) (empty : ℕ) (list : List Made) (opened : Option Access) : Type 0 where

@@ -14,7 +14,7 @@ ghost use Rattle.ring_player.specs.Tellings.{AreAt, RecordsPlay, SaysPut, SaysTa
 use crate::faults::PlayFault;
 use crate::worlds::World;
 use bits_core::{Event, Side, Store};
-use queue_calls::CallEvent;
+use queue_calls::{CallEvent, Reply};
 use ring_script::Script;
 use std::alloc::{AllocError, Allocator};
 
@@ -84,10 +84,10 @@ fn put_says(
             if before.stored < now.stored {
                 (
                     PutStage::Between,
-                    Some(PlayedCall::PutStored(now.stored - before.stored)),
+                    Some(PlayedCall::PutEnds(Reply::Passed(now.stored - before.stored))),
                 )
             } else if before.full < now.full {
-                (PutStage::Between, Some(PlayedCall::PutFull))
+                (PutStage::Between, Some(PlayedCall::PutEnds(Reply::Lacked)))
             } else {
                 (PutStage::Putting, None)
             }
@@ -124,11 +124,17 @@ fn take_says(
                     before: before.taken,
                     count: now.taken - before.taken,
                 };
-                (TakeStage::Between, Some(PlayedCall::TakeItems(taken)))
+                (
+                    TakeStage::Between,
+                    Some(PlayedCall::TakeEnds(Reply::Passed(taken))),
+                )
             } else if before.empty < now.empty {
-                (TakeStage::Between, Some(PlayedCall::TakeEmpty))
+                (
+                    TakeStage::Between,
+                    Some(PlayedCall::TakeEnds(Reply::Lacked)),
+                )
             } else if now.told {
-                (TakeStage::Told, Some(PlayedCall::TakeClosed))
+                (TakeStage::Told, Some(PlayedCall::TakeEnds(Reply::Shut)))
             } else {
                 (TakeStage::Taking, None)
             }

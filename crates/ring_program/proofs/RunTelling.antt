@@ -7,7 +7,7 @@ use Rattle.std.proofs.lemmas.Grind.{flat_map-append}
 use Rattle.std.specs.List.{flat_map, sum_by}
 use Rattle.std.specs.Str.{bytes_eq}
 use Rattle.bits_core.specs.declared.shapes.Shape.{Shape}
-use Rattle.queue_calls.specs.Calls.{Event, PutBegin, TakeItems}
+use Rattle.queue_calls.specs.Calls.{Event, PutBegin, TakeEnd, Passed}
 use Rattle.ring_program.specs.RunRecordings.{AreOfRun, IsOfRun, RunCounts, TellAllBut, counts_with, stored_with}
 use Rattle.ring_program.specs.Untold.{TakesOff}
 use Rattle.ring_program.specs.declared.run_recordings.Untold.{Untold}
@@ -27,7 +27,7 @@ front_items items taken left same is =
     sym (take-append-drop (length items) taken) ∙ ap₂ (λ (a : List ℕ) (b : List ℕ). a ++ b) ((bytes_eq-Decides (take (length items) taken) items).0 same) (sym is)
 
 -- a take ended with the next items
-pub took : (u : Untold) (items : List ℕ) (left : Bor (List ℕ)) → u.taken.now ≡ items ++ left.now → TakesOff u (TakeItems items true) (record u { taken = left })
+pub took : (u : Untold) (items : List ℕ) (left : Bor (List ℕ)) → u.taken.now ≡ items ++ left.now → TakesOff u (TakeEnd (Passed items true)) (record u { taken = left })
 took u items left is =
     let taken : items ++ [] ++ left.now ≡ u.taken.now = simp append-nil (sym is) in
     record { items = refl; tells = search (rules, arith, taken) }

@@ -4,7 +4,7 @@ use Rattle.std.specs.Prelude.{◌≡◌, ℕ, ◌+◌, ◌≤◌, ◌==◌, Bool
 use Rattle.std.specs.List.{flat_map, sum_by}
 use Rattle.bits_core.specs.Shape.{batch_of, capacity_of, take_batch_of}
 use Rattle.bits_core.specs.declared.shapes.Shape.{Shape}
-use Rattle.queue_calls.specs.Calls.{Event, PutBegin, PutStored, PutFull, PutShort, PutNothing, PutClosed, CloseBegin, CloseEnd, TakeBegin, TakeItems, TakeEmpty, TakeShort, TakeNothing, TakeClosed, IsLinearizable}
+use Rattle.queue_calls.specs.Calls.{Event, PutBegin, PutEnd, CloseBegin, CloseEnd, TakeBegin, TakeEnd, Reply, Passed, Lacked, Short, Nothing, Shut, IsLinearizable}
 use Rattle.queue_calls.specs.Order.{Side, P, C, pick, side_of}
 use Rattle.queue_calls.specs.Queue.{exactly}
 use Rattle.queue_calls.specs.Recordings.{IsRecording}
@@ -37,13 +37,13 @@ nothing_left = record { put = 0; calls = 0; full = 0; closes = 0; takes = 0; emp
 -- one that ends with items, with the ring empty, or with it empty and closed
 abbrev pub counts_with : Event → RunCounts
 counts_with (PutBegin items) = record nothing_left { calls = 1 }
-counts_with (PutStored count why) = record nothing_left { put = count }
-counts_with PutFull = record nothing_left { full = 1 }
+counts_with (PutEnd (Passed count why)) = record nothing_left { put = count }
+counts_with (PutEnd Lacked) = record nothing_left { full = 1 }
 counts_with CloseEnd = record nothing_left { closes = 1 }
 counts_with (TakeBegin wanted) = record nothing_left { takes = 1 }
-counts_with (TakeItems items why) = record nothing_left { taken = items }
-counts_with TakeEmpty = record nothing_left { empty = 1 }
-counts_with TakeClosed = record nothing_left { told = 1 }
+counts_with (TakeEnd (Passed items why)) = record nothing_left { taken = items }
+counts_with (TakeEnd Lacked) = record nothing_left { empty = 1 }
+counts_with (TakeEnd Shut) = record nothing_left { told = 1 }
 counts_with _ = nothing_left
 
 -- how many items are stored according to the end of a put
@@ -53,10 +53,17 @@ stored_with event = (counts_with event).put
 -- the room that its line takes in the log of a side: a put that begins, and a take that ends with items, as much as it has items
 abbrev pub room_with : Side → Event → ℕ
 room_with s (PutBegin items) = pick s P (length items) 0
-room_with s (TakeItems items why) = pick s C (length items) 0
+room_with s (TakeEnd (Passed items why)) = pick s C (length items) 0
 room_with s event = pick s (side_of event) 1 0
 
 -- ---- calls as a run makes them
+
+-- a call says why it passed no more, and it is not short
+abbrev pub SaysWhy : {A : Type 0} → Reply A → Type 0
+SaysWhy (Passed what false) = ⊥
+SaysWhy Short = ⊥
+SaysWhy Nothing = ⊥
+SaysWhy _ = Unit {0}
 
 -- After puts that left these items: a put offers as many of them as a batch has, or all if fewer are left, and a close comes if
 -- none is left; a take asks for one item, up to as many as the take batch
@@ -64,14 +71,10 @@ abbrev pub IsOfRun : Shape → (left : List ℕ) → Event → Type 0
 IsOfRun shape left (PutBegin items) = items ≡ take (batch_of shape) left
 IsOfRun shape left CloseBegin = left ≡ []
 IsOfRun shape left (TakeBegin wanted) = (1 ≤ wanted) × (wanted ≤ take_batch_of shape)
-IsOfRun shape left (PutStored count false) = ⊥
-IsOfRun shape left PutShort = ⊥
-IsOfRun shape left PutNothing = ⊥
-IsOfRun shape left PutClosed = ⊥
-IsOfRun shape left (TakeItems items false) = ⊥
-IsOfRun shape left TakeShort = ⊥
-IsOfRun shape left TakeNothing = ⊥
-IsOfRun shape left _ = Unit {0}
+IsOfRun shape left (PutEnd Shut) = ⊥
+IsOfRun shape left (PutEnd reply) = SaysWhy reply
+IsOfRun shape left (TakeEnd reply) = SaysWhy reply
+IsOfRun shape left CloseEnd = Unit {0}
 
 -- events one after the other
 abbrev pub AreOfRun : Shape → (left : List ℕ) → List Event → Type 0

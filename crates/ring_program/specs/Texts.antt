@@ -20,7 +20,8 @@ use Rattle.queue_calls.specs.declared.reports.CallsReport as calls_report
 use Rattle.ring_audit.specs.Audit.{Statement, Lawful, Fault}
 use Rattle.ring_player.specs.Plays.{offered}
 use Rattle.queue_calls.specs.declared.events.CallEvent.{CallEvent}
-use Rattle.queue_calls.specs.declared.events.CallEvent.TheVariants.{TakeItems}
+use Rattle.queue_calls.specs.declared.events.CallEvent.TheVariants.{TakeEnds}
+use Rattle.queue_calls.specs.declared.events.Reply.TheVariants.{Passed}
 use Rattle.ring_player.specs.declared.tellings.TakenItems.{TakenItems}
 use Rattle.ring_player.specs.declared.worlds.Report.{Report}
 use Rattle.ring_script.specs.Content.{Content}
@@ -166,7 +167,7 @@ items_behind items taken = take taken.count (drop taken.before items)
 
 -- how many items an event of calls by a near miss takes
 abbrev pub items_by : CallEvent ℕ ℕ → ℕ
-items_by (TakeItems count) = count
+items_by (TakeEnds (Passed count)) = count
 items_by _ = 0
 
 -- the calls of a play by a near miss, as events: each take has the next of the items taken

@@ -8,7 +8,7 @@ ghost use Rattle.ring_program.specs.Texts.{list_line};
 
 use crate::faults::AppFault;
 use crate::lines::push_list;
-use queue_calls::{Begun, Event};
+use queue_calls::{Begun, Event, Reply};
 use std::alloc::Allocator;
 
 /// What the producer began last, after this event.
@@ -55,14 +55,14 @@ pub fn push_event<A: Allocator>(
     let word = event.word().text();
     match event {
         Event::PutBegins(items) => push_items(text, word, items),
-        Event::TakeItems(items) => push_items(text, word, items),
-        Event::TakeSome(items) => push_items(text, word, items),
-        Event::PutStored(count) if count < offered_last(begun) => push_list(
+        Event::TakeEnds(Reply::Passed(items)) => push_items(text, word, items),
+        Event::TakeEnds(Reply::PassedSome(items)) => push_items(text, word, items),
+        Event::PutEnds(Reply::Passed(count)) if count < offered_last(begun) => push_list(
             text,
             word,
             &[count as u64],
         ),
-        Event::PutSome(count) => push_list(text, word, &[count as u64]),
+        Event::PutEnds(Reply::PassedSome(count)) => push_list(text, word, &[count as u64]),
         Event::TakeBegins(wanted) if 1 < wanted => push_list(text, word, &[wanted as u64]),
         _ => push_list(text, word, &[]),
     }

@@ -3,18 +3,18 @@ ghost use Rattle.std.specs.Prelude.{◌≡◌, ◌⊎◌, false, ◌+◌, ◌-�
 ghost use Rattle.bits_core.specs.Shape.{batch_of, capacity_of, take_batch_of};
 ghost use Rattle.queue_calls.specs.Audits.{Audits};
 ghost use Rattle.queue_calls.specs.Calls as calls;
-ghost use Rattle.queue_calls.specs.Calls.{IsLinearizable, PutBegin};
+ghost use Rattle.queue_calls.specs.Calls.{IsLinearizable, PutBegin, TakeEnd};
 ghost use Rattle.queue_calls.specs.Order.{C, P};
 ghost use Rattle.queue_calls.specs.Recordings.{first_word};
-ghost use Rattle.queue_calls.specs.Told.{meant, told};
-ghost use Rattle.ring_program.specs.RunRecordings.{IsOfRun, RecordsRun, nothing_left, room_with, run_counts};
+ghost use Rattle.queue_calls.specs.Told.{meant, reply_by, told};
+ghost use Rattle.ring_program.specs.RunRecordings.{IsOfRun, RecordsRun, SaysWhy, nothing_left, room_with, run_counts};
 ghost use Rattle.ring_program.specs.Untold.{TakesOff, left_of};
 
 use crate::call_writing::{begun_behind, push_event};
 use crate::faults::AppFault;
 use crate::lines::push_list;
 use bits_core::Shape;
-use queue_calls::{Begun, CallAuditor, Event, Fault, Word, event_told, exactly};
+use queue_calls::{Begun, CallAuditor, Event, Fault, Reply, Word, event_told, exactly};
 use ring_run::{Outcome, Recorder};
 use std::alloc::Allocator;
 use std::collections::VecDeque;
@@ -86,12 +86,12 @@ impl<'r> Untold<'r> {
     {
         match event {
             Event::PutBegins(offered) => self.behind_offer(shape, offered),
-            Event::PutStored(count) => {
+            Event::PutEnds(Reply::Passed(count)) => {
                 let items = self.items.get(count..)?;
                 let put = self.put.checked_sub(count as u64)?;
                 Some(Untold { items, put, ..self })
             }
-            Event::PutFull => {
+            Event::PutEnds(Reply::Lacked) => {
                 let full = self.full.checked_sub(1)?;
                 Some(Untold { full, ..self })
             }
@@ -112,25 +112,31 @@ impl<'r> Untold<'r> {
                 let takes = self.takes.checked_sub(1)?;
                 Some(Untold { takes, ..self })
             }
-            Event::TakeItems(items) => {
+            Event::TakeEnds(reply) => self.behind_take(reply),
+            Event::PutEnds(Reply::PassedSome(_) | Reply::Short | Reply::Nothing | Reply::Shut) =>
+                None,
+        }
+    }
+
+    // What is left after the end of a take, if it is one of the run.
+    fn behind_take(self, reply: Reply<&[u64]>) -> Option<Untold<'r>>
+        ensures { IfSome result (λ after. SaysWhy (reply_by (λ items. items.now) reply.entry) ×
+            TakesOff self.entry (TakeEnd (reply_by (λ items. items.now) reply.entry)) after) }
+    {
+        match reply {
+            Reply::Passed(items) => {
                 let taken = self.taken.strip_prefix(items)?;
                 Some(Untold { taken, ..self })
             }
-            Event::TakeEmpty => {
+            Reply::Lacked => {
                 let empty = self.empty.checked_sub(1)?;
                 Some(Untold { empty, ..self })
             }
-            Event::TakeClosed => {
+            Reply::Shut => {
                 let told = self.told.checked_sub(1)?;
                 Some(Untold { told, ..self })
             }
-            Event::PutSome(_)
-            | Event::PutShort
-            | Event::PutNothing
-            | Event::PutClosed
-            | Event::TakeSome(_)
-            | Event::TakeShort
-            | Event::TakeNothing => None,
+            Reply::PassedSome(_) | Reply::Short | Reply::Nothing => None,
         }
     }
 
@@ -184,12 +190,14 @@ impl Room {
     {
         match event {
             Event::PutBegins(items) => self.less(items.len(), 0),
-            Event::PutStored(_) | Event::PutSome(_) => self.less(1, 0),
-            Event::PutFull | Event::PutShort | Event::PutNothing => self.less(1, 0),
-            Event::PutClosed | Event::CloseBegins | Event::CloseEnds => self.less(1, 0),
-            Event::TakeItems(items) | Event::TakeSome(items) => self.less(0, items.len()),
-            Event::TakeBegins(_) | Event::TakeEmpty | Event::TakeShort => self.less(0, 1),
-            Event::TakeNothing | Event::TakeClosed => self.less(0, 1),
+            Event::PutEnds(_) | Event::CloseBegins | Event::CloseEnds => self.less(1, 0),
+            Event::TakeEnds(Reply::Passed(items) | Reply::PassedSome(items)) => {
+                self.less(0, items.len())
+            }
+            Event::TakeBegins(_)
+            | Event::TakeEnds(Reply::Lacked | Reply::Short | Reply::Nothing | Reply::Shut) => {
+                self.less(0, 1)
+            }
         }
     }
 }

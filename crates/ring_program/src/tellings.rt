@@ -15,7 +15,7 @@ use crate::call_writing::{begun_behind, push_event};
 use crate::faults::AppFault;
 use crate::lines::push_list;
 use near_misses::NearCall;
-use queue_calls::{Begun, CallEvent, Event, Word};
+use queue_calls::{Begun, CallEvent, Event, Reply, Word};
 use ring_player::{PlayedCall, Script, TakenItems};
 use std::alloc::Allocator;
 
@@ -74,21 +74,20 @@ fn event_of<'a, B: Allocator, T: Took>(
 {
     match told {
         CallEvent::PutBegins(stored) => Event::PutBegins(offered(script, *stored)),
-        CallEvent::PutStored(count) => Event::PutStored(*count),
-        CallEvent::PutSome(count) => Event::PutSome(*count),
-        CallEvent::PutFull => Event::PutFull,
-        CallEvent::PutShort => Event::PutShort,
-        CallEvent::PutNothing => Event::PutNothing,
-        CallEvent::PutClosed => Event::PutClosed,
+        CallEvent::PutEnds(reply) => Event::PutEnds(*reply),
         CallEvent::CloseBegins => Event::CloseBegins,
         CallEvent::CloseEnds => Event::CloseEnds,
         CallEvent::TakeBegins(wanted) => Event::TakeBegins(*wanted),
-        CallEvent::TakeItems(taken) => Event::TakeItems(taken.items(from)),
-        CallEvent::TakeSome(taken) => Event::TakeSome(taken.items(from)),
-        CallEvent::TakeEmpty => Event::TakeEmpty,
-        CallEvent::TakeShort => Event::TakeShort,
-        CallEvent::TakeNothing => Event::TakeNothing,
-        CallEvent::TakeClosed => Event::TakeClosed,
+        CallEvent::TakeEnds(Reply::Passed(taken)) => {
+            Event::TakeEnds(Reply::Passed(taken.items(from)))
+        }
+        CallEvent::TakeEnds(Reply::PassedSome(taken)) => {
+            Event::TakeEnds(Reply::PassedSome(taken.items(from)))
+        }
+        CallEvent::TakeEnds(Reply::Lacked) => Event::TakeEnds(Reply::Lacked),
+        CallEvent::TakeEnds(Reply::Short) => Event::TakeEnds(Reply::Short),
+        CallEvent::TakeEnds(Reply::Nothing) => Event::TakeEnds(Reply::Nothing),
+        CallEvent::TakeEnds(Reply::Shut) => Event::TakeEnds(Reply::Shut),
     }
 }
 
@@ -120,7 +119,7 @@ fn items_left<'a>(items: &'a [u64], told: &NearCall) -> &'a [u64]
     ensures { result.now ≡ drop (items_by told.now) items.now }
 {
     match told {
-        NearCall::TakeItems(count) => &items[(*count).min(items.len())..],
+        NearCall::TakeEnds(Reply::Passed(count)) => &items[(*count).min(items.len())..],
         _ => items,
     }
 }

@@ -4,7 +4,7 @@ ghost use Rattle.queue_calls.specs.Recordings.{IsFurther, line};
 
 use crate::gates::{Gate, YieldGate};
 use bits_core::Side;
-use queue_calls::{Event, Word, allows};
+use queue_calls::{Event, Reply, Word, allows};
 use std::alloc::{AllocError, Allocator};
 use std::sync::atomic::{AtomicU64, Ordering};
 
@@ -156,12 +156,12 @@ impl Gate for Recorder<'_> {
         };
         let (word, ticket) = (event.word(), self.ticket());
         match event {
-            Event::PutBegins(items) | Event::TakeItems(items) | Event::TakeSome(items) => {
+            Event::PutBegins(items)
+            | Event::TakeEnds(Reply::Passed(items) | Reply::PassedSome(items)) => {
                 log.add(ticket, word, items);
             }
-            Event::PutStored(count) | Event::PutSome(count) | Event::TakeBegins(count) => {
-                log.add(ticket, word, &[count as u64]);
-            }
+            Event::PutEnds(Reply::Passed(count) | Reply::PassedSome(count))
+            | Event::TakeBegins(count) => log.add(ticket, word, &[count as u64]),
             _ => log.add(ticket, word, &[0]),
         }
     }

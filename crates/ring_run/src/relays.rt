@@ -9,7 +9,7 @@ ghost use Rattle.ring_run.specs.Relays.{HasMadePuts, HasRelayedPuts, HasRelayedT
 use crate::gates::Gate;
 use crate::sides::{Stage, Watch};
 use bits_core::{Oracle, Shape, Side};
-use queue_calls::Event;
+use queue_calls::{Event, Reply};
 use ring_core::{BatchReply, TakeBatchReply, TakeReply};
 use ring_ends::{CounterRing, FlickerRing, PutEnd, RingOf, RunFault, TakeEnd};
 use std::alloc::{AllocError, Allocator};
@@ -83,12 +83,12 @@ fn put_in_order<E: PutEnd, G: Gate>(
         let reply = putter.put_all(&items[put..next]);
         match reply {
             BatchReply::Stored(stored) => {
-                gate.hears(Event::PutStored(stored as usize));
+                gate.hears(Event::PutEnds(Reply::Passed(stored as usize)));
                 put += stored as usize;
                 waits = 0;
             }
             BatchReply::Full => {
-                gate.hears(Event::PutFull);
+                gate.hears(Event::PutEnds(Reply::Lacked));
                 taker.waits();
                 full += 1;
                 waits += 1;
@@ -215,19 +215,19 @@ fn take_all<A: Allocator, E: TakeEnd, G: Gate>(
         match take_into(taker, into) {
             TakeBatchReply::Taken(count) => {
                 let taken = &into[..count as usize];
-                gate.hears(Event::TakeItems(taken));
+                gate.hears(Event::TakeEnds(Reply::Passed(taken)));
                 append(items, taken)?;
                 waits = 0;
             }
             TakeBatchReply::Empty => {
-                gate.hears(Event::TakeEmpty);
+                gate.hears(Event::TakeEnds(Reply::Lacked));
                 putter.waits();
                 empty += 1;
                 waits += 1;
                 gate.wait(Side::C, waits);
             }
             TakeBatchReply::Closed => {
-                gate.hears(Event::TakeClosed);
+                gate.hears(Event::TakeEnds(Reply::Shut));
                 closed = true;
             }
         }

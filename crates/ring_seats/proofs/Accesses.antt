@@ -1,5 +1,5 @@
 -- A complete access of an end: two steps of its seat.
-use Rattle.std.proofs.Common.{◌≡◌, ℕ, Bool, true, false, Option, None, List, [], ◌∷◌, ◌++◌, refl, ap, sym, subst, ◌∙◌}
+use Rattle.std.proofs.Common.{arith, ◌≡◌, ℕ, Bool, true, false, Option, None, List, [], ◌∷◌, ◌++◌, ap, sym, subst, ◌∙◌}
 use Rattle.atomic_table.specs.Table.{Me}
 use Rattle.bits_core.specs.declared.events.Side.{Side}
 use Rattle.bits_core.specs.declared.events.Bit.{Bit}
@@ -13,7 +13,8 @@ use Rattle.bits_core.specs.declared.shapes.Shape.{Shape}
 use Rattle.bits_core.specs.History.{open_access}
 use Rattle.ring_seats.specs.Ring.{Ring, RingEnd}
 use Rattle.ring_seats.specs.declared.views.View.{View}
-use Rattle.ring_seats.specs.Rule.{Added, Stands, and_event, event, list_of, may_step}
+use Rattle.ring_seats.specs.Rule.{Stands, event, list_of, may_step}
+use Rattle.ring_seats.proofs.Grown.{Added, and_event}
 use Rattle.ring_seats.specs.Words.{answer_of}
 use Rattle.ring_seats.specs.Steppers.{Grows, HasMade}
 use Rattle.ring_seats.proofs.Moves.{list_of-mine, may_step-more, opened_by}
@@ -26,19 +27,10 @@ end_at ring x v = record { ring = ring; side = x; list = list_of x v; known = v.
 pub of_side :
     (x : Side) (ring : Ring) (y : Side) (v : View) {e : RingEnd} → end_at ring y v ≡ e → e.side ≡ x → may_step y v ≡ true → may_step (other y) v ≡ false →
     (F : Shape → List Event → Type 0) → F e.ring.shape e.list → (may_step x v ≡ true) × (may_step (other x) v ≡ false) × F ring.shape (list_of x v)
-of_side x ring y v {e} is side may may_not F has =
-    let here : y ≡ x = ap (λ (z : RingEnd). z.side) is ∙ side in (
-      subst (λ (s : Side). may_step s v ≡ true) here may,
-      subst (λ (s : Side). may_step (other s) v ≡ false) here may_not,
-      subst (λ (s : Side). F ring.shape (list_of s v)) here (subst (λ (z : RingEnd). F z.ring.shape z.list) (sym is) has),
-    )
+of_side x ring y v {e} is side may may_not F has = grind arith
 
 pub grows : (ring : Ring) (x : Side) (e : Event) (got : ℕ) (v w : View) → w ≡ and_event x e got v → Stands ring.shape x (list_of x w) w.known → Grows (end_at ring x v) (end_at ring x w) e
-grows ring x e got v w is stands = record {
-  same = record { ring = refl; side = refl; known = ap (λ (u : View). u.known) is };
-  list = ap (list_of x) is ∙ list_of-mine x e got v;
-  stands = stands;
-}
+grows ring x e got v w is stands = grind arith
 
 module _ (ring : Ring) (x : Side) (b : Bit) (m0 m1 m2 : Me (Unit {0}) View) where
   pub made_read : (first n : ℕ) (said v : Bool) → Added ring.shape (λ _. event x b ReadBegin) m0 first m1 → Added ring.shape (λ k. event x b (ReadEnd (answer_of m1.0.first k said))) m1 n m2

@@ -1,25 +1,23 @@
 -- What reads returned, step by step.
-use Rattle.std.proofs.Common.{◌≡◌, ℕ, ◌+◌, Bool, true, false, List, [], ◌∷◌, ◌++◌, refl, ap, sym, ◌∙◌, inl, inr, arith, append_assoc, append-nil, add-zero}
+use Rattle.std.proofs.Common.{◌≡◌, ℕ, ◌+◌, Bool, true, false, List, [], ◌∷◌, ◌++◌, refl, ap, sym, ◌∙◌, arith, append_assoc, append-nil, add-zero}
 use Rattle.std.specs.Prelude.{if◌then◌else◌}
 use Rattle.bits_core.specs.declared.events.Side.{Side}
 use Rattle.bits_core.specs.declared.events.Bit.{Bit}
 use Rattle.bits_core.specs.declared.events.Act.{Act}
-use Rattle.bits_core.specs.declared.events.Act.TheVariants.{ReadBegin, ReadEnd, WriteBegin, WriteEnd}
+use Rattle.bits_core.specs.declared.events.Act.TheVariants.{ReadEnd}
 use Rattle.bits_core.specs.declared.events.Event.{Event}
 use Rattle.ring_seats.specs.Ring.{Ring, RingEnd}
 use Rattle.ring_seats.specs.declared.views.View.{View}
 use Rattle.ring_seats.specs.declared.views.Loads.{Loads}
-use Rattle.ring_seats.specs.Rule.{and_event, event, kept_loads, list_of}
+use Rattle.ring_seats.specs.Rule.{event}
+use Rattle.ring_seats.proofs.Grown.{and_event, kept_loads}
 use Rattle.ring_seats.specs.Words.{agrees, answer_of}
 use Rattle.ring_seats.specs.Steppers.{AreAnswered, IsAskedOnce, and_answer, answers_by, answers_in, asks_of_all, asks_of}
 use Rattle.ring_seats.proofs.Accesses.{end_at}
 use Rattle.ring_seats.proofs.Moves.{list_of-mine}
 
 and_answer-append : (a : Act) (xs ys : List Bool) → and_answer a (xs ++ ys) ≡ and_answer a xs ++ ys
-and_answer-append ReadBegin xs ys = refl
-and_answer-append (ReadEnd v) xs ys = refl
-and_answer-append (WriteBegin v) xs ys = refl
-and_answer-append WriteEnd xs ys = refl
+and_answer-append a xs ys = grind arith
 
 answers_in-append : (xs ys : List Event) → answers_in (xs ++ ys) ≡ answers_in xs ++ answers_in ys
 answers_in-append [] ys = refl
@@ -27,10 +25,7 @@ answers_in-append (e ∷ xs) ys = ap (and_answer e.act) (answers_in-append xs ys
 
 asked_by-append : (xs ys : List Loads) → asks_of_all (xs ++ ys) ≡ asks_of_all xs + asks_of_all ys
 asked_by-append [] ys = omega arith
-asked_by-append (l ∷ xs) ys = step (asks_of l) (asks_of_all (xs ++ ys)) (asks_of_all xs) (asks_of_all ys) (asked_by-append xs ys)
-  where
-    step : (n all a b : ℕ) → all ≡ a + b → n + all ≡ (n + a) + b
-    step n all a b is = omega (arith, is)
+asked_by-append (l ∷ xs) ys = grind (arith, (asked_by-append xs ys))
 
 later : (i a b : ℕ) → (i + a) + b ≡ i + (b + a)
 later i a b = omega arith
@@ -56,33 +51,19 @@ answered_then a b c f g h s t = record {
 -- how often the oracle was asked by one read
 pub asked_so : {O : Type 0} (answers : O → ℕ → Bool) (old new : O) (agree : Bool) → (agree ≡ true → new ≡ old) → (agree ≡ false → (i : ℕ) → answers new i ≡ answers old (i + 1))
     → (i : ℕ) → answers new i ≡ answers old (i + (if agree then 0 else 1))
-asked_so answers old new true kept asks i = ap (λ o. answers o i) (kept refl) ∙ ap (answers old) (sym (add-zero i))
-asked_so answers old new false kept asks i = asks refl i
+asked_so answers old new agree h1 h2 i = grind arith
 
 -- and that it was asked at most once
 pub asked_once : {O : Type 0} (answers : O → ℕ → Bool) (old new : O) (agree : Bool) → (agree ≡ true → new ≡ old) → (agree ≡ false → (i : ℕ) → answers new i ≡ answers old (i + 1)) → IsAskedOnce answers old new
-asked_once answers old new true kept asks = inl (kept refl)
-asked_once answers old new false kept asks = inr (asks refl)
+asked_once answers old new agree h1 h2 = grind arith
 
 module _ (ring : Ring) (x : Side) (b : Bit) where
   -- a step that ends no read
   pub quiet_step : (a : Act) (got : ℕ) (v w : View) → w ≡ and_event x (event x b a) got v → kept_loads a v.first got v.loads ≡ v.loads → and_answer a [] ≡ [] → (said : ℕ → Bool)
       → AreAnswered (end_at ring x v) (end_at ring x w) said said
-  quiet_step a got v w is kept none said = record {
-    loads = [];
-    loads_are = ap (λ (u : View). u.loads) is ∙ kept ∙ sym (append-nil v.loads);
-    answers_are = ap (λ (u : View). answers_in (list_of x u)) is ∙ ap answers_in (list_of-mine x (event x b a) got v) ∙ answers_in-append (list_of x v) (event x b a ∷ []) ∙ ap (λ (l : List Bool). answers_in (list_of x v) ++ l) none;
-    asked = λ i. ap said (sym (add-zero i));
-  }
+  quiet_step a got v w is kept none said = grind (arith, add-zero, answers_in-append, append-nil, list_of-mine)
 
   -- the step that ends a read
   pub read_step : (found : ℕ) (v w : View) (old new : ℕ → Bool) → w ≡ and_event x (event x b (ReadEnd (answer_of v.first found (old 0)))) found v
       → ((i : ℕ) → new i ≡ old (i + (if agrees v.first found then 0 else 1))) → AreAnswered (end_at ring x v) (end_at ring x w) old new
-  read_step found v w old new is asked =
-      let a : Act = ReadEnd (answer_of v.first found (old 0)) in
-      let l : Loads = record { first = v.first; found = found } in record {
-        loads = l ∷ [];
-        loads_are = ap (λ (u : View). u.loads) is;
-        answers_are = ap (λ (u : View). answers_in (list_of x u)) is ∙ ap answers_in (list_of-mine x (event x b a) found v) ∙ answers_in-append (list_of x v) (event x b a ∷ []);
-        asked = λ i. asked i ∙ ap (λ (n : ℕ). old (i + n)) (sym (add-zero (asks_of l)));
-      }
+  read_step found v w old new is asked = grind (arith, add-zero, answers_in-append, list_of-mine)

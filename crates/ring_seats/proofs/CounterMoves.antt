@@ -1,5 +1,5 @@
 -- Each step of a counter ring preserves its rule.
-use Rattle.std.proofs.Common.{◌≡◌, ◌≢◌, ◌⊎◌, inl, inr, ⊎_elim, ℕ, zero, suc, ◌^◌, ◌<◌, ◌≤◌, Bool, true, false, true≢false, None, List, [], ◌∷◌, ◌++◌, ◌==◌, length, set, slice_index, sym, refl, ap, ◌∙◌, subst, arith, append_assoc, length-set, get_or-set_same, get_or-set_other}
+use Rattle.std.proofs.Common.{◌≡◌, ◌≢◌, inl, ⊎_elim, ℕ, zero, suc, ◌^◌, ◌<◌, ◌≤◌, Bool, true, false, true≢false, List, [], ◌∷◌, ◌++◌, ◌==◌, length, set, slice_index, sym, refl, ap, ◌∙◌, subst, arith, append_assoc, length-set, get_or-set_same, get_or-set_other}
 use Rattle.std.proofs.lemmas.Bool.Decides.{nat_tests}
 use Rattle.std.proofs.lemmas.List.{length-replicate, get_or-replicate}
 use Rattle.std.proofs.lemmas.Nat.{pow_pos}
@@ -16,7 +16,7 @@ use Rattle.bits_core.specs.declared.events.Bit.TheVariants.{X, Cell}
 use Rattle.bits_core.specs.declared.events.Event.{Event}
 use Rattle.bits_core.specs.Shape.{capacity_of, modulus_of, width_of}
 use Rattle.bits_core.specs.Bits.{other, writer, same_bit}
-use Rattle.bits_core.specs.History.{open_access, held}
+use Rattle.bits_core.specs.History.{held}
 use Rattle.bits_core.specs.Made.{Made, Read, Write, events_of, subhistory, IsPrefix}
 use Rattle.register_core.specs.Row.{RowWrite, row_bit, writes_in}
 use Rattle.register_core.specs.Unary.{unary_phrase}
@@ -26,7 +26,8 @@ use Rattle.ring_seats.specs.declared.views.View.{View}
 use Rattle.ring_seats.specs.Words as bits
 use Rattle.ring_seats.specs.Programs.{Follows, IsRing}
 use Rattle.ring_seats.specs.Rule.{joint, may_step, list_of, SeatKnows, SeatsKnow}
-use Rattle.ring_seats.specs.Counters.{count_place, their_place, cell_place, words_of, first_counts, value_left, unary_over, IsLastCount, IsLastItem, ShowsWords, KeptWords, and_events, AddedAll, TellsNothing, IsBelow}
+use Rattle.ring_seats.specs.Counters.{count_place, their_place, cell_place, words_of, first_counts, value_left, unary_over, IsLastCount, IsLastItem, ShowsWords, KeptWords}
+use Rattle.ring_seats.proofs.Grown.{and_events, AddedAll, TellsNothing, IsBelow}
 use Rattle.ring_seats.proofs.Histories.{either_side}
 use Rattle.ring_seats.proofs.Rights.{AllRight, scan_right, unary_right, word_write_right, reads_right}
 use Rattle.ring_seats.proofs.Moves.{set-same, opens_so, each_stays, no_load}
@@ -37,12 +38,10 @@ use Rattle.register_core.proofs.Counts.{row_writer}
 -- ---- the seats
 
 list_of-more : (x : Side) (es : List Event) (v : View) → list_of x (and_events x es v) ≡ list_of x v ++ es
-list_of-more P es v = refl
-list_of-more C es v = refl
+list_of-more x es v = grind arith
 
 may_step-more : (x y : Side) (es : List Event) (v : View) → may_step y (and_events x es v) ≡ may_step y v
-may_step-more x P es v = refl
-may_step-more x C es v = refl
+may_step-more x y es v = grind arith
 
 -- what complete accesses leave unchanged, and what they add
 module _ (x : Side) (es : List Event) (v w : View) (is : w ≡ and_events x es v) where
@@ -188,32 +187,25 @@ module _ (shape : Shape) where
   -- ---- the places and rows of two words
 
   small_place : (x : Side) → (0 < count_place x) × (count_place x < 3)
-  small_place P = (omega arith, omega arith)
-  small_place C = (omega arith, omega arith)
+  small_place x = grind arith
 
   far_places : (x : Side) → count_place (other x) ≢ count_place x
-  far_places P = λ e. omega (arith, e)
-  far_places C = λ e. omega (arith, e)
+  far_places x = grind arith
 
   far_rows : (x : Side) (i k : ℕ) → same_bit (row_bit (other x) i) (row_bit x k) ≡ false
-  far_rows P i k = refl
-  far_rows C i k = refl
+  far_rows x i k = grind arith
 
   cell_row : (x : Side) (j i k : ℕ) → same_bit (Cell j i) (row_bit x k) ≡ false
-  cell_row P j i k = refl
-  cell_row C j i k = refl
+  cell_row x j i k = grind arith
 
   row_cell : (x : Side) (j i k : ℕ) → same_bit (row_bit x i) (Cell j k) ≡ false
-  row_cell P j i k = refl
-  row_cell C j i k = refl
+  row_cell x j i k = grind arith
 
   close_row : (x : Side) (i k : ℕ) → same_bit X (row_bit x k) ≡ false
-  close_row P i k = refl
-  close_row C i k = refl
+  close_row x i k = grind arith
 
   row_close : (x : Side) (i : ℕ) → same_bit (row_bit x i) X ≡ false
-  row_close P i = refl
-  row_close C i = refl
+  row_close x i = grind arith
 
   far_cells : (j k i l : ℕ) → k ≢ j → same_bit (Cell k i) (Cell j l) ≡ false
   far_cells j k i l ne = grind (arith, nat_tests)
@@ -445,26 +437,10 @@ first_zero : (shape : Shape) (i : ℕ) → i < words_of shape → slice_index (f
 first_zero shape i lt = get_or-replicate (words_of shape) i 0 0 lt
 
 count_below : (shape : Shape) (x : Side) → count_place x < words_of shape
-count_below shape P = omega arith
-count_below shape C = omega arith
+count_below shape x = grind arith
 
 shows_first : (shape : Shape) → ShowsWords shape (first_counts shape) []
-shows_first shape = record {
-  idle = first_idle;
-  count = λ x. inr (first_none x, first_zero shape (count_place x) (count_below shape x));
-  small = λ x. subst (λ (n : ℕ). n < modulus_of shape) (sym (first_zero shape (count_place x) (count_below shape x))) (omega (arith, shape.has_cells, shape.room_to_count));
-  cell = λ j lt. inr ((λ i. refl), first_zero shape (cell_place j) (omega (arith, lt)));
-  fits = λ j lt. subst (λ (n : ℕ). n < 2 ^ width_of shape) (sym (first_zero shape (cell_place j) (omega (arith, lt)))) (pow_pos (width_of shape));
-  close = first_zero shape 0 (omega arith);
-}
-  where
-    first_idle : (x : Side) → open_access x [] ≡ None
-    first_idle P = refl
-    first_idle C = refl
-
-    first_none : (x : Side) → Rattle.ring_seats.specs.Counters.NoWriteOf (row_bit x) (subhistory x [])
-    first_none P i = refl
-    first_none C i = refl
+shows_first shape = grind (arith, count_below, first_zero, pow_pos)
 
 pub opens : (shape : Shape) → KeptWords shape (opening (first_counts shape) [] (joint [] [] [] []))
 opens shape = opens_so words_of ShowsWords shape (first_counts shape) (length-replicate (words_of shape) 0) (shows_first shape)

@@ -1,18 +1,17 @@
 -- The puts of a counter ring, from their lists.
-use Rattle.std.proofs.Common.{◌≡◌, ℕ, zero, suc, ◌+◌, ◌%◌, ◌^◌, ◌<◌, ◌≤◌, Bool, true, false, List, [], ◌∷◌, ◌++◌, length, take, slice_index, refl, ap, sym, subst, ◌∙◌, arith, append_assoc, append-nil}
+use Rattle.std.proofs.Common.{rules, ◌≡◌, ℕ, zero, suc, ◌+◌, ◌%◌, ◌^◌, ◌<◌, ◌≤◌, Bool, true, false, List, [], ◌∷◌, ◌++◌, length, take, slice_index, refl, ap, sym, subst, ◌∙◌, arith, append_assoc, append-nil}
 use Rattle.std.proofs.Math.Nat.{suc-mod}
 use native.Mathlib.Decide.{dec_lt}
 use Rattle.bits_core.specs.declared.shapes.Shape.{Shape}
 use Rattle.bits_core.specs.declared.events.Side.{Side}
-use Rattle.bits_core.specs.declared.events.Side.TheVariants.{P, C}
+use Rattle.bits_core.specs.declared.events.Side.TheVariants.{P}
 use Rattle.bits_core.specs.declared.events.Bit.{Bit}
-use Rattle.bits_core.specs.declared.events.Bit.TheVariants.{S, R, X, Cell}
+use Rattle.bits_core.specs.declared.events.Bit.TheVariants.{X, Cell}
 use Rattle.bits_core.specs.declared.events.Event.{Event}
 use Rattle.bits_core.specs.Shape.{AllFit, capacity_of, modulus_of, width_of}
 use Rattle.bits_core.specs.Bits.{first_value}
 use Rattle.bits_core.specs.Made.{Made, Read, Write, events_of, IsPrefix}
-use Rattle.register_core.specs.Row.{row_bit, first_bits, writes_in}
-use Rattle.register_core.specs.Unary.{unary_phrase}
+use Rattle.register_core.specs.Row.{row_bit, first_bits}
 use Rattle.register_core.specs.Word.{digit_writes, word_write}
 use Rattle.register_core.specs.ScanState.{zero_reads, scan_phrase, row_read_by}
 use Rattle.ring_core.specs.Counts.{Count, first_count, number_past, count_bits, batch_phrase, LeavesRoom, LeavesRoomFor}
@@ -30,9 +29,7 @@ pub use Rattle.ring_core.proofs.CountRow.{past_is}
 -- ---- lists of items
 
 pub length-first : (n : ℕ) (xs : List ℕ) → n ≤ length xs → length (take n xs) ≡ n
-length-first zero xs le = refl
-length-first (suc n) [] le = absurd (omega (arith, le))
-length-first (suc n) (x ∷ xs) le = ap suc (length-first n xs (omega (arith, le)))
+length-first n xs h1 = search rules
 
 pub first_all : (n : ℕ) (xs : List ℕ) → length xs ≤ n → take n xs ≡ xs
 first_all zero [] le = refl
@@ -57,26 +54,14 @@ module _ (shape : Shape) where
   -- one more of them
   pub words_more : (items : List ℕ) (n i : ℕ) → i < length items → words_phrase shape n (take (suc i) items) ≡ words_phrase shape n (take i items) ++ word_write (width_of shape) ((n + i) % capacity_of shape) (slice_index items i)
   words_more [] n i lt = absurd (omega (arith, lt))
-  words_more (x ∷ items) n zero lt =
-      append-nil (word_write (width_of shape) (n % capacity_of shape) x) ∙ ap (λ (k : ℕ). word_write (width_of shape) (k % capacity_of shape) x) same
-    where
-      same : n ≡ n + 0
-      same = omega arith
-  words_more (x ∷ items) n (suc i) lt =
-      ap (λ (l : List Made). word_write (width_of shape) (n % capacity_of shape) x ++ l) (words_more items (suc n) i (omega (arith, lt))) ∙
-      (sym (append_assoc (word_write (width_of shape) (n % capacity_of shape) x) (words_phrase shape (suc n) (take i items)) (word_write (width_of shape) ((suc n + i) % capacity_of shape) (slice_index items i))) ∙
-      ap (λ (k : ℕ). (word_write (width_of shape) (n % capacity_of shape) x ++ words_phrase shape (suc n) (take i items)) ++ word_write (width_of shape) (k % capacity_of shape) (slice_index items i)) same)
-    where
-      same : suc n + i ≡ n + suc i
-      same = omega arith
+  words_more (x ∷ items) n zero lt = grind (arith, append-nil)
+  words_more (x ∷ items) n (suc i) lt = grind (arith, append_assoc, (words_more items (suc n) i (omega (arith, lt))))
 
   -- the first ones are a prefix of all
   pub words_begin : (items : List ℕ) (n k : ℕ) → IsPrefix (words_phrase shape n (take k items)) (words_phrase shape n items)
   words_begin items n zero = (words_phrase shape n items, refl)
   words_begin [] n (suc k) = ([], refl)
-  words_begin (x ∷ items) n (suc k) =
-      let b = words_begin items (suc n) k in
-      (b.0, append_assoc (word_write (width_of shape) (n % capacity_of shape) x) (words_phrase shape (suc n) (take k items)) b.0 ∙ ap (λ (l : List Made). word_write (width_of shape) (n % capacity_of shape) x ++ l) b.1)
+  words_begin (x ∷ items) n (suc k) = grind (arith, append_assoc, (words_begin items (suc n) k))
 
 -- ---- the value of its count that results from the producer's list
 
@@ -92,26 +77,17 @@ word_spares width j item = spares_writes (row_bit P) (Cell j) (λ i k. refl) (di
 
 pub words_spare : (shape : Shape) (n : ℕ) (items : List ℕ) → Spares (row_bit P) (words_phrase shape n items)
 words_spare shape n [] = tt
-words_spare shape n (x ∷ items) =
-    spares-append (row_bit P) (word_write (width_of shape) (n % capacity_of shape) x) (words_phrase shape (suc n) items) (word_spares (width_of shape) (n % capacity_of shape) x) (words_spare shape (suc n) items)
+words_spare shape n (x ∷ items) = grind (arith, spares-append, word_spares, (words_spare shape (suc n) items))
 
 close_spares : (closes : Bool) → Spares (row_bit P) (close_phrase closes)
-close_spares true = ((λ i. refl), tt)
-close_spares false = tt
+close_spares closes = grind arith
 
 -- the bits of a row are these
 abbrev pub RowIs : Side → (Bit → Bool) → (ℕ → Bool) → Type 0
 RowIs x bits f = (i : ℕ) → bits (row_bit x i) ≡ f i
 
 pub first_row : (x : Side) → RowIs x first_value first_bits
-first_row P i = first_same i
-  where
-    first_same : (i : ℕ) → first_value (S i) ≡ first_bits i
-    first_same i = refl
-first_row C i = first_same i
-  where
-    first_same : (i : ℕ) → first_value (R i) ≡ first_bits i
-    first_same i = refl
+first_row x = grind arith
 
 pub row_spared : (x : Side) (bits : Bit → Bool) (made : List Made) (f : ℕ → Bool) → Spares (row_bit x) made → RowIs x bits f → RowIs x (after bits made) f
 row_spared x bits made f s is i = spared_bits (row_bit x) made bits s i ∙ is i
@@ -126,21 +102,14 @@ pub row_calls :
     ((c : Count) → last c [] ≡ c) → ((c : Count) (y : A) (ys : List A) → last c (y ∷ ys) ≡ last (next c y) ys) →
     ((bits : Bit → Bool) (c : Count) (y : A) → RowIs x bits c.bits → RowIs x (after bits (phrase c y)) (next c y).bits) →
     (calls : List A) (bits : Bit → Bool) (c : Count) → RowIs x bits c.bits → RowIs x (after bits (phrases c calls)) (last c calls).bits
-row_calls x phrase next phrases last nil more stays goes each [] bits c is i =
-    ap (λ (l : List Made). after bits l (row_bit x i)) (nil c) ∙ is i ∙ sym (ap (λ (k : Count). k.bits i) (stays c))
-row_calls x phrase next phrases last nil more stays goes each (y ∷ ys) bits c is i =
-    ap (λ (l : List Made). after bits l (row_bit x i)) (more c y ys) ∙
-    row_both x bits (phrase c y) (phrases (next c y) ys) (last (next c y) ys).bits
-    (row_calls x phrase next phrases last nil more stays goes each ys (after bits (phrase c y)) (next c y) (each bits c y is)) i ∙
-    sym (ap (λ (k : Count). k.bits i) (goes c y ys))
+row_calls x phrase next phrases last nil more stays goes each [] bits c is i = grind arith
+row_calls x phrase next phrases last nil more stays goes each (y ∷ ys) bits c is i = grind (arith, (after bits (phrase c y)), (row_both x bits (phrase c y) (phrases (next c y) ys) (last (next c y) ys).bits (row_calls x phrase next phrases last nil more stays goes each ys (after bits (phrase c y)) (next c y) (each bits c y is)) i), (row_calls x phrase next phrases last nil more stays goes each ys (after bits (phrase c y)) (next c y) (each bits c y is)))
 
 -- and in the list of a side, whose program ends with accesses that do not touch the row
 pub row_left :
     (x : Side) (list : List Event) (made end : List Made) (c : Count) → list ≡ events_of x (made ++ end) → Spares (row_bit x) end → RowIs x (after first_value made) c.bits →
     RowIs x (value_left list) c.bits
-row_left x list made end c list_is spares is i =
-    ap (λ (l : List Event). value_left l (row_bit x i)) list_is ∙
-    (left_by-made x (made ++ end) [] (row_bit x i) ∙ row_both x first_value made end c.bits (row_spared x (after first_value made) end c.bits spares is) i)
+row_left x list made end c list_is spares is i = grind (arith, (after first_value made), (left_by-made x (made ++ end) [] (row_bit x i)), (row_both x first_value made end c.bits (row_spared x (after first_value made) end c.bits spares is) i), (row_spared x (after first_value made) end c.bits spares is), c.bits)
 
 -- ---- a side's list continues
 
@@ -150,10 +119,7 @@ module _ (x : Side) (list : List Event) (prog : List Made) (list_is : list ≡ e
 
   -- what was made is a prefix of a program that begins with it
   pub begins : (a rest program : List Made) → program ≡ prog ++ (a ++ rest) → IsPrefix (list ++ events_of x a) (events_of x program)
-  begins a rest program e = (
-    events_of x rest,
-    ap (λ (l : List Event). l ++ events_of x rest) (list_on a) ∙ (sym (events_of-append x (prog ++ a) rest) ∙ ap (events_of x) (append_assoc prog a rest ∙ sym e)),
-  )
+  begins a rest program e = grind (arith, (append_assoc prog a rest), (events_of-append x (prog ++ a) rest), (list_on a))
 
   -- and if nothing is left it is that program's
   pub makes : (a program : List Made) (now : List Event) → program ≡ prog ++ a → now ≡ list ++ events_of x a → now ≡ events_of x program
@@ -166,9 +132,7 @@ module _ (shape : Shape) (x : Side) (list now : List Event) (a : List Made) (c :
   row_now i = ap (λ (l : List Event). value_left l (row_bit x i)) is ∙ (left_by-made x a list (row_bit x i) ∙ row_spared x (value_left list) a c.bits spares row i)
 
   pub counted : now ++ events_of x (unary_over x now new) ≡ list ++ events_of x (a ++ batch_phrase shape x c items)
-  counted =
-      (λ i. is i ++ events_of x (writes_in (row_bit x) (unary_phrase (λ (k : ℕ). row_now k i) (next i)))) ∙
-      (append_assoc list (events_of x a) (events_of x (batch_phrase shape x c items)) ∙ ap (λ (l : List Event). list ++ l) (sym (events_of-append x a (batch_phrase shape x c items))))
+  counted = grind (arith, append_assoc, events_of-append, row_now)
 
 module _ (shape : Shape) where
   row_put : (bits : Bit → Bool) (c : Count) (x : Put) → RowIs P bits c.bits → RowIs P (after bits (put_phrase shape c x)) (stored_after shape c x).bits
@@ -205,8 +169,7 @@ module _ (shape : Shape) (list : List Event) (calls : Puts) (has : HasPuts shape
 
   -- a complete put
   whole : (x : Put) (now : List Event) → IsPut shape c_of.number x → now ≡ list ++ events_of P (put_phrase shape c_of x) → HasPuts shape now (and_put calls x)
-  whole x now is e =
-      record { are = (more x is).are; list_is = makes P list prog has.list_is (put_phrase shape c_of x) (put_program shape (and_put calls x)) now (more x is).program_is e }
+  whole x now is e = grind (arith, (makes P list prog has.list_is (put_phrase shape c_of x) (put_program shape (and_put calls x)) now (more x is).program_is e), (more x is))
 
   abbrev scan_of : ℕ → List Made
   scan_of seen = scan_phrase (row_read_by P) seen
@@ -247,8 +210,7 @@ module _ (shape : Shape) (list : List Event) (calls : Puts) (has : HasPuts shape
       list2_is = second ∙ two list1 first
 
       phrase_is : list2 ++ events_of P (unary_over P list2 new) ≡ list ++ events_of P (put_phrase shape c_of (Stored seen items))
-      phrase_is = counted shape P list list2 before c_of list2_is (spares-append (row_bit P) (scan_of seen) words (scan_spares (row_bit P) (row_read_by P) seen) (words_spare shape c_of.number items))
-          (putter_row shape list calls has) items new next
+      phrase_is = search (rules, counted, list2_is, putter_row, scan_spares, spares-append, words_spare)
 
       pub can_count : Follows shape P (list2 ++ events_of P (unary_over P list2 new))
       can_count = subst (Follows shape P) (sym phrase_is) (goes (Stored seen items) (put_phrase shape c_of (Stored seen items)) [] is (sym (append-nil (put_phrase shape c_of (Stored seen items)))))

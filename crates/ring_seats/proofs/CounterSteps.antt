@@ -36,12 +36,7 @@ module _ (a : RingEnd) (cell : ℕ) (items : List ℕ) (side : a.side ≡ P) whe
     so_far = g.list ∙ ap (λ (s : Side). a.list ++ events_of s (words_phrase a.ring.shape cell (take i items))) side
 
     one_more : b.list ++ events_of P (word_write (width_of a.ring.shape) place (slice_index items i)) ≡ a.list ++ events_of P (words_phrase a.ring.shape cell (take (suc i) items))
-    one_more =
-        let before : List Made = words_phrase a.ring.shape cell (take i items) in
-        let word : List Made = word_write (width_of a.ring.shape) ((cell + i) % capacity_of a.ring.shape) (slice_index items i) in
-        (λ j. so_far j ++ events_of P (word_write (width_of a.ring.shape) (is j) (slice_index items i))) ∙
-        (append_assoc a.list (events_of P before) (events_of P word) ∙
-        ap (λ (l : List Event). a.list ++ l) (sym (events_of-append P before word) ∙ ap (events_of P) (sym (words_more a.ring.shape items cell i lt))))
+    one_more = grind (arith, append_assoc, events_of-append, so_far, words_more)
 
     pub next_store : Follows a.ring.shape P (a.list ++ events_of P (words_phrase a.ring.shape cell items)) → Follows b.ring.shape P (b.list ++ events_of P (word_write (width_of b.ring.shape) place (slice_index items i)))
     next_store f =
@@ -53,19 +48,11 @@ module _ (a : RingEnd) (cell : ℕ) (items : List ℕ) (side : a.side ≡ P) whe
         (subst (Follows a.ring.shape P) (sym one_more) (follows_shorter a.ring.shape P (a.list ++ events_of P some) (events_of P rest.0) (subst (Follows a.ring.shape P) whole f)))
 
     pub stored_one : (c : RingEnd) → GrowsBy b c (word_write (width_of b.ring.shape) place (slice_index items i)) → GrowsBy a c (words_phrase a.ring.shape cell (take (suc i) items))
-    stored_one c h = record {
-      same = same_end a b c g.same h.same;
-      list = h.list ∙ ((λ j. b.list ++ events_of ((g.same.side ∙ side) j) (word_write (width_of (same_shape a b g.same j)) place (slice_index items i))) ∙
-          (one_more ∙ ap (λ (s : Side). a.list ++ events_of s (words_phrase a.ring.shape cell (take (suc i) items))) (sym side)));
-      stands = h.stands;
-    }
+    stored_one c h = grind (arith, one_more, same_end, same_shape)
 
 -- the place of the next cell
 pub next_place : (cell i place next size : ℕ) → place ≡ (cell + i) % size → next ≡ suc place % size → next ≡ (cell + suc i) % size
-next_place cell i place next size is e = e ∙ (ap (λ (n : ℕ). suc n % size) is ∙ (sym (suc-mod (cell + i) size) ∙ ap (λ (n : ℕ). n % size) more))
-  where
-    more : suc (cell + i) ≡ cell + suc i
-    more = omega arith
+next_place cell i place next size is e = grind (arith, (suc-mod (cell + i) size))
 
 -- the loads of several items, one cell after the other
 module _ (a : RingEnd) (cell : ℕ) (side : a.side ≡ C) where
@@ -74,12 +61,7 @@ module _ (a : RingEnd) (cell : ℕ) (side : a.side ≡ C) where
     loads_so_far = g.list ∙ ap (λ (s : Side). a.list ++ events_of s (words_read a.ring.shape cell items)) side
 
     one_load_more : (item : ℕ) → b.list ++ events_of C (word_read (width_of a.ring.shape) place item) ≡ a.list ++ events_of C (words_read a.ring.shape cell (items ++ item ∷ []))
-    one_load_more item =
-        let before : List Made = words_read a.ring.shape cell items in
-        let word : List Made = word_read (width_of a.ring.shape) ((cell + length items) % capacity_of a.ring.shape) item in
-        (λ j. loads_so_far j ++ events_of C (word_read (width_of a.ring.shape) (is j) item)) ∙
-        (append_assoc a.list (events_of C before) (events_of C word) ∙
-        ap (λ (l : List Event). a.list ++ l) (sym (events_of-append C before word) ∙ ap (events_of C) (sym (words_by_one_more_words a.ring.shape cell items item))))
+    one_load_more item = grind (arith, append_assoc, events_of-append, loads_so_far, words_by_one_more_words)
 
     -- the next of a number of loads, whatever the later ones may load
     pub next_load :
@@ -102,9 +84,4 @@ module _ (a : RingEnd) (cell : ℕ) (side : a.side ≡ C) where
         (subst (Follows shape C) whole (program all long fits))))
 
     pub loaded_one : (c : RingEnd) (item : ℕ) → GrowsBy b c (word_read (width_of b.ring.shape) place item) → GrowsBy a c (words_read a.ring.shape cell (items ++ item ∷ []))
-    loaded_one c item h = record {
-      same = same_end a b c g.same h.same;
-      list = h.list ∙ ((λ j. b.list ++ events_of ((g.same.side ∙ side) j) (word_read (width_of (same_shape a b g.same j)) place item)) ∙
-          (one_load_more item ∙ ap (λ (s : Side). a.list ++ events_of s (words_read a.ring.shape cell (items ++ item ∷ []))) (sym side)));
-      stands = h.stands;
-    }
+    loaded_one c item h = grind (arith, one_load_more, same_end, same_shape)

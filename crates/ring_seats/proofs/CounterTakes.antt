@@ -1,8 +1,7 @@
 -- The takes of a counter ring, from their lists.
-use Rattle.std.proofs.Common.{◌≡◌, ℕ, zero, suc, ◌%◌, ◌<◌, Bool, true, false, List, [], ◌∷◌, ◌++◌, length, refl, ap, sym, subst, ◌∙◌, arith, append_assoc, append-nil}
+use Rattle.std.proofs.Common.{rules, ◌≡◌, ℕ, zero, suc, ◌%◌, ◌<◌, Bool, true, false, List, [], ◌∷◌, ◌++◌, length, refl, ap, sym, subst, ◌∙◌, arith, append_assoc, append-nil}
 use Rattle.std.proofs.Math.Nat.{suc-mod}
 use Rattle.std.proofs.lemmas.Nat.{pow_pos}
-use native.Mathlib.Decide.{dec_lt}
 use Rattle.bits_core.specs.declared.shapes.Shape.{Shape}
 use Rattle.bits_core.specs.declared.events.Side.TheVariants.{C}
 use Rattle.bits_core.specs.declared.events.Bit.{Bit}
@@ -14,7 +13,7 @@ use Rattle.bits_core.specs.Made.{Made, Read, events_of}
 use Rattle.register_core.specs.Row.{row_bit}
 use Rattle.register_core.specs.Word.{digit, digit_reads, word_read}
 use Rattle.register_core.specs.ScanState.{scan_phrase, row_read_by}
-use Rattle.ring_core.specs.Counts.{distance, ShowsItem, number_past, Count, first_count, count_bits, batch_phrase}
+use Rattle.ring_core.specs.Counts.{ShowsItem, number_past, Count, first_count, count_bits, batch_phrase}
 use Rattle.ring_core.specs.Takes.{Take, Item, ItemAfterClose, Empty, End, Open, Closed, Takes, taken_after, count_after, taken_count, words_read, items_phrase, take_phrase, take_phrases, end_phrase, take_program, SeesItems, SeesNone, IsTakeBatch, IsTake}
 use Rattle.ring_core.specs.ConsumerCalls.{count_taken, and_take, and_end, IsTakeOf, Finding, Once, Twice, finding_phrase, Finds}
 use Rattle.ring_core.specs.OneCallMore.{HasOneTakeMore, HasEndMore}
@@ -29,8 +28,7 @@ use Rattle.ring_core.proofs.LawLemmas.{programs_by_one_call_ends, programs_by_on
 
 -- the items taken after a take that found items
 pub take_of-takes : (k : ℕ) (look : Finding) (items : List ℕ) → taken_after k (take_of look items) ≡ number_past k items
-take_of-takes k (Once seen) items = refl
-take_of-takes k (Twice seen again) items = refl
+take_of-takes k look items = grind arith
 
 -- ---- the words of several items
 
@@ -49,9 +47,7 @@ digits_spare row j item (suc n) = spares-append row (digit_reads j item n) (Read
 
 reads_spare : (shape : Shape) (n : ℕ) (items : List ℕ) → Spares (row_bit C) (words_read shape n items)
 reads_spare shape n [] = tt
-reads_spare shape n (x ∷ items) =
-    spares-append (row_bit C) (word_read (width_of shape) (n % capacity_of shape) x) (words_read shape (suc n) items)
-    (digits_spare (row_bit C) (n % capacity_of shape) x (width_of shape)) (reads_spare shape (suc n) items)
+reads_spare shape n (x ∷ items) = search (rules, digits_spare, spares-append, (reads_spare shape (suc n) items))
 
 look_spares : (look : Finding) → Spares (row_bit C) (finding_phrase look)
 look_spares (Once seen) = scan_spares (row_bit C) (row_read_by C) seen
@@ -72,16 +68,12 @@ module _ (shape : Shape) where
   row_found :
       (bits : Bit → Bool) (c : Count) (items : List ℕ) (look : Finding) → RowIs C bits c.bits →
       RowIs C (after bits (finding_phrase look ++ items_phrase shape c items)) (count_after shape c (Item 0 items)).bits
-  row_found bits c items look is =
-      row_both C bits (finding_phrase look) (items_phrase shape c items) (count_after shape c (Item 0 items)).bits
-      (row_items (after bits (finding_phrase look)) c items (row_spared C bits (finding_phrase look) c.bits (look_spares look) is))
+  row_found bits c items look is = search (rules, after, look_spares, row_both, row_items, row_spared)
 
   row_take : (bits : Bit → Bool) (c : Count) (x : Take) → RowIs C bits c.bits → RowIs C (after bits (take_phrase shape c x)) (count_after shape c x).bits
   row_take bits c (Item seen items) is = row_found bits c items (Once seen) is
   row_take bits c (ItemAfterClose seen again items) is = row_found bits c items (Twice seen again) is
-  row_take bits c (Empty seen) is =
-      row_spared C bits (scan_phrase (row_read_by C) seen ++ Read X false ∷ []) c.bits
-      (spares-append (row_bit C) (scan_phrase (row_read_by C) seen) (Read X false ∷ []) (scan_spares (row_bit C) (row_read_by C) seen) tt) is
+  row_take bits c (Empty seen) is = search (rules, row_spared, scan_spares, spares-append)
 
   pub taker_row : (list : List Event) (calls : Takes) → HasTakes shape list calls → RowIs C (value_left list) (count_taken shape calls).bits
   taker_row list calls has =
@@ -89,12 +81,7 @@ module _ (shape : Shape) where
       (row_calls C (take_phrase shape) (count_after shape) (take_phrases shape) (taken_count shape) (λ c. refl) (λ c y ys. refl) (λ c. refl) (λ c y ys. refl) row_take calls.takes first_value first_count (first_row C))
 
 shows_or_not : (shape : Shape) (c k : ℕ) → Dec (ShowsItem shape c k)
-shows_or_not shape c k = go (dec_lt 0 (distance (modulus_of shape) c k)) (dec_lt (capacity_of shape) (distance (modulus_of shape) c k))
-  where
-    go : Dec (0 < distance (modulus_of shape) c k) → Dec (capacity_of shape < distance (modulus_of shape) c k) → Dec (ShowsItem shape c k)
-    go (no t) u = no (λ (s : ShowsItem shape c k). t s.0)
-    go (yes t) (yes u) = no (λ (s : ShowsItem shape c k). omega (arith, u, s.1))
-    go (yes t) (no u) = yes (t, omega (arith, u))
+shows_or_not shape c k = grind arith
 
 -- ---- the list of a taker none of whose takes returned Closed
 
@@ -128,8 +115,7 @@ module _ (shape : Shape) (list : List Event) (calls : Takes) (has : HasTakes sha
       (and_end calls seen again, m.are, begins C list prog has.list_is a rest (take_program shape (and_end calls seen again)) (m.program_is ∙ ap (λ (l : List Made). prog ++ l) phrase))
 
   pub whole_take : (x : Take) (now : List Event) → IsTake shape (count_taken shape calls).number x → now ≡ list ++ events_of C (take_phrase shape (count_taken shape calls) x) → HasTakes shape now (and_take calls x)
-  whole_take x now is e =
-      record { are = (take_more x is).are; list_is = makes C list prog has.list_is (take_phrase shape c_of x) (take_program shape (and_take calls x)) now (take_more x is).program_is e }
+  whole_take x now is e = grind (arith, (makes C list prog has.list_is (take_phrase shape c_of x) (take_program shape (and_take calls x)) now (take_more x is).program_is e), (take_more x is))
 
   pub whole_end : (seen again : ℕ) (now : List Event) → SeesNone shape (count_taken shape calls).number seen → SeesNone shape (count_taken shape calls).number again → now ≡ list ++ events_of C (end_phrase (Closed seen again)) → HasTakes shape now (and_end calls seen again)
   whole_end seen again now none none' e =
@@ -176,14 +162,11 @@ module _ (shape : Shape) (list : List Event) (calls : Takes) (has : HasTakes sha
 
     -- the word reads
     pub can_read : Follows shape C (list ++ events_of C (finding_phrase look ++ words_read shape (count_taken shape calls).number items))
-    can_read = goes (take_of look items) made (batch_phrase shape C c_of items) is_take.0
-        (take_of-phrase shape c_of look items ∙ sym (append_assoc (finding_phrase look) words (batch_phrase shape C c_of items)))
+    can_read = grind (arith, (append_assoc (finding_phrase look) words (batch_phrase shape C c_of items)), (goes (take_of look items) made (batch_phrase shape C c_of items) is_take.0 (take_of-phrase shape c_of look items ∙ sym (append_assoc (finding_phrase look) words (batch_phrase shape C c_of items)))), (take_of look items), (take_of-phrase shape c_of look items))
 
     module _ (now : List Event) (e : now ≡ list ++ events_of C (finding_phrase look ++ words_read shape (count_taken shape calls).number items)) (new : ℕ) (next : new ≡ number_past (count_taken shape calls).number items % modulus_of shape) where
       phrase_is : now ++ events_of C (unary_over C now new) ≡ list ++ events_of C (take_phrase shape c_of (take_of look items))
-      phrase_is =
-          counted shape C list now made c_of e (spares-append (row_bit C) (finding_phrase look) words (look_spares look) (reads_spare shape k_of items)) (taker_row shape list calls has) items new next ∙
-          ap (λ (l : List Made). list ++ events_of C l) (append_assoc (finding_phrase look) words (batch_phrase shape C c_of items) ∙ sym (take_of-phrase shape c_of look items))
+      phrase_is = grind (arith, (append_assoc (finding_phrase look) words (batch_phrase shape C c_of items)), (counted shape C list now made c_of e (spares-append (row_bit C) (finding_phrase look) words (look_spares look) (reads_spare shape k_of items)) (taker_row shape list calls has) items new next), (look_spares look), (reads_spare shape k_of items), (spares-append (row_bit C) (finding_phrase look) words (look_spares look) (reads_spare shape k_of items)), (take_of-phrase shape c_of look items), (taker_row shape list calls has))
 
       pub can_count : Follows shape C (now ++ events_of C (unary_over C now new))
       can_count = subst (Follows shape C) (sym phrase_is) (goes (take_of look items) (take_phrase shape c_of (take_of look items)) [] is_take.0 (sym (append-nil (take_phrase shape c_of (take_of look items)))))

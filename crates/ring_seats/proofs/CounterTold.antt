@@ -1,13 +1,11 @@
 -- The history determines the words of a counter ring, and complete calls determine those of its counts.
-use Rattle.std.proofs.Common.{◌≡◌, ℕ, zero, suc, ◌+◌, ◌%◌, ◌<◌, Bool, true≢false, List, [], ◌∷◌, length, slice_index, ap, sym, subst, ◌∙◌, arith, length-append}
-use native.Mathlib.Decide.{dec_lt}
+use Rattle.std.proofs.Common.{◌≡◌, ℕ, zero, suc, ◌+◌, ◌%◌, ◌<◌, Bool, List, [], ◌∷◌, length, slice_index, sym, ◌∙◌, arith, length-append}
 use Rattle.bits_core.specs.declared.shapes.Shape.{Shape}
 use Rattle.bits_core.specs.declared.events.Side.{Side}
 use Rattle.bits_core.specs.declared.events.Side.TheVariants.{P, C}
 use Rattle.bits_core.specs.declared.events.Event.{Event}
 use Rattle.bits_core.specs.Shape.{capacity_of, modulus_of, width_of}
 use Rattle.bits_core.specs.Made.{subhistory}
-use Rattle.register_core.specs.Row.{row_bit}
 use Rattle.ring_core.specs.Counts.{Count, IsCount, first_count}
 use Rattle.ring_core.specs.Items.{all_put, all_taken}
 use Rattle.ring_core.specs.ConsumerCalls as takes
@@ -24,18 +22,11 @@ use Rattle.ring_core.proofs.LawLemmas.{counts_are_written_numbers}
 
 -- bits have at most one lowest set bit
 one_lowest : (bits : ℕ → Bool) (c d : ℕ) → Lowest bits c → Lowest bits d → c ≡ d
-one_lowest bits c d a b = go (dec_lt c d) (dec_lt d c)
-  where
-    go : Dec (c < d) → Dec (d < c) → c ≡ d
-    go (yes lt) u = absurd (true≢false (sym a.set ∙ b.clear c lt))
-    go (no t) (yes lt) = absurd (true≢false (sym b.set ∙ a.clear d lt))
-    go (no t) (no u) = omega (arith, t, u)
+one_lowest bits c d a b = grind arith
 
 module _ (shape : Shape) (words others : List ℕ) (h : List Event) (a : ShowsWords shape words h) (b : ShowsWords shape others h) where
   count_told : (x : Side) → slice_index words (count_place x) ≡ slice_index others (count_place x)
-  count_told x = one_lowest _ (slice_index words (count_place x)) (slice_index others (count_place x))
-      (count_shows shape x (subhistory x h) (slice_index words (count_place x)) (a.small x) (a.count x))
-      (count_shows shape x (subhistory x h) (slice_index others (count_place x)) (b.small x) (b.count x))
+  count_told x = grind (arith, (count_shows shape x (subhistory x h) (slice_index words (count_place x)) (a.small x) (a.count x)), (count_shows shape x (subhistory x h) (slice_index others (count_place x)) (b.small x) (b.count x)), (one_lowest _ (slice_index words (count_place x)) (slice_index others (count_place x)) (count_shows shape x (subhistory x h) (slice_index words (count_place x)) (a.small x) (a.count x)) (count_shows shape x (subhistory x h) (slice_index others (count_place x)) (b.small x) (b.count x))))
 
   cell_told : (j : ℕ) → j < capacity_of shape → slice_index words (cell_place j) ≡ slice_index others (cell_place j)
   cell_told j lt = digits_tell_items (width_of shape) (slice_index words (cell_place j)) (slice_index others (cell_place j)) (a.fits j lt) (b.fits j lt)
@@ -46,9 +37,7 @@ pub words-told : WordsAreTold
 words-told shape words others h a b zero lt = a.close ∙ sym b.close
 words-told shape words others h a b (suc zero) lt = count_told shape words others h a b P
 words-told shape words others h a b (suc (suc zero)) lt = count_told shape words others h a b C
-words-told shape words others h a b (suc (suc (suc j))) lt =
-    let same : cell_place j ≡ suc (suc (suc j)) = omega arith in
-    subst (λ (n : ℕ). slice_index words n ≡ slice_index others n) same (cell_told shape words others h a b j (omega (arith, lt)))
+words-told shape words others h a b (suc (suc (suc j))) lt = grind (arith, (cell_told shape words others h a b j (omega (arith, lt))))
 
 -- ---- complete calls
 
@@ -62,23 +51,19 @@ after_puts shape (Full seen ∷ puts) c is = after_puts shape puts (stored_after
 after_takes : (shape : Shape) (takes : List Take) (c : Count) → IsCount shape c → IsCount shape (taken_count shape c takes)
 after_takes shape [] c is = is
 after_takes shape (Item seen items ∷ takes) c is = after_takes shape takes (count_after shape c (Item seen items)) ((counts_are_written_numbers shape).1 c seen items)
-after_takes shape (ItemAfterClose seen again items ∷ takes) c is =
-    after_takes shape takes (count_after shape c (ItemAfterClose seen again items)) ((counts_are_written_numbers shape).1 c seen items)
+after_takes shape (ItemAfterClose seen again items ∷ takes) c is = grind (arith, (after_takes shape takes (count_after shape c (ItemAfterClose seen again items)) ((counts_are_written_numbers shape).1 c seen items)))
 after_takes shape (Empty seen ∷ takes) c is = after_takes shape takes (count_after shape c (Empty seen)) (record { set = is.set; clear = is.clear })
 
 -- this many are stored, and taken
 stored_number : (shape : Shape) (puts : List Put) (c : Count) → (stored_count shape c puts).number ≡ c.number + length (all_put puts)
 stored_number shape [] c = omega arith
-stored_number shape (Stored seen items ∷ puts) c =
-    omega (arith, stored_number shape puts (stored_after shape c (Stored seen items)), past_is c.number items, length-append items (all_put puts))
+stored_number shape (Stored seen items ∷ puts) c = grind (arith, length-append, past_is, (stored_number shape puts (stored_after shape c (Stored seen items))))
 stored_number shape (Full seen ∷ puts) c = stored_number shape puts (stored_after shape c (Full seen))
 
 taken_number : (shape : Shape) (takes : List Take) (c : Count) → (taken_count shape c takes).number ≡ c.number + length (all_taken takes)
 taken_number shape [] c = omega arith
-taken_number shape (Item seen items ∷ takes) c =
-    omega (arith, taken_number shape takes (count_after shape c (Item seen items)), past_is c.number items, length-append items (all_taken takes))
-taken_number shape (ItemAfterClose seen again items ∷ takes) c =
-    omega (arith, taken_number shape takes (count_after shape c (ItemAfterClose seen again items)), past_is c.number items, length-append items (all_taken takes))
+taken_number shape (Item seen items ∷ takes) c = grind (arith, length-append, past_is, (taken_number shape takes (count_after shape c (Item seen items))))
+taken_number shape (ItemAfterClose seen again items ∷ takes) c = grind (arith, length-append, past_is, (taken_number shape takes (count_after shape c (ItemAfterClose seen again items))))
 taken_number shape (Empty seen ∷ takes) c = taken_number shape takes (count_after shape c (Empty seen))
 
 from_none : (n m : ℕ) → n ≡ 0 + m → n ≡ m
@@ -86,17 +71,10 @@ from_none n m e = omega (arith, e)
 
 -- a count whose bits result from the list is the word that shows them
 shown_count : (shape : Shape) (words : List ℕ) (h : List Event) → ShowsWords shape words h → (x : Side) (c : Count) → IsCount shape c → RowIs x (value_left (subhistory x h)) c.bits → slice_index words (count_place x) ≡ c.number % modulus_of shape
-shown_count shape words h shows x c is row =
-    one_lowest (λ i. value_left (subhistory x h) (row_bit x i)) (slice_index words (count_place x)) (c.number % modulus_of shape)
-    (count_shows shape x (subhistory x h) (slice_index words (count_place x)) (shows.small x) (shows.count x))
-    (record { set = row (c.number % modulus_of shape) ∙ is.set; clear = λ i lt. row i ∙ is.clear i lt })
+shown_count shape words h shows x c is row = grind (arith, (count_shows shape x (subhistory x h) (slice_index words (count_place x)) (shows.small x) (shows.count x)), one_lowest, c.number, is.clear, is.set, shows.count, shows.small)
 
 pub puts-shown : PutsAreShown
-puts-shown shape words h calls shows has =
-    shown_count shape words h shows P (count_of shape calls) (after_puts shape calls.puts first_count (counts_are_written_numbers shape).0) (putter_row shape (subhistory P h) calls has) ∙
-    ap (λ (n : ℕ). n % modulus_of shape) (from_none (count_of shape calls).number (length (all_put calls.puts)) (stored_number shape calls.puts first_count))
+puts-shown shape words h calls shows has = grind (arith, (after_puts shape calls.puts first_count (counts_are_written_numbers shape).0), (counts_are_written_numbers shape), (from_none (count_of shape calls).number (length (all_put calls.puts)) (stored_number shape calls.puts first_count)), (putter_row shape (subhistory P h) calls has), (shown_count shape words h shows P (count_of shape calls) (after_puts shape calls.puts first_count (counts_are_written_numbers shape).0) (putter_row shape (subhistory P h) calls has)), (stored_number shape calls.puts first_count), calls.puts)
 
 pub takes-shown : TakesAreShown
-takes-shown shape words h calls shows has =
-    shown_count shape words h shows C (takes.count_taken shape calls) (after_takes shape calls.takes first_count (counts_are_written_numbers shape).0) (taker_row shape (subhistory C h) calls has) ∙
-    ap (λ (n : ℕ). n % modulus_of shape) (from_none (takes.count_taken shape calls).number (length (all_taken calls.takes)) (taken_number shape calls.takes first_count))
+takes-shown shape words h calls shows has = grind (arith, (after_takes shape calls.takes first_count (counts_are_written_numbers shape).0), (counts_are_written_numbers shape), (from_none (takes.count_taken shape calls).number (length (all_taken calls.takes)) (taken_number shape calls.takes first_count)), (shown_count shape words h shows C (takes.count_taken shape calls) (after_takes shape calls.takes first_count (counts_are_written_numbers shape).0) (taker_row shape (subhistory C h) calls has)), (taken_number shape calls.takes first_count), (taker_row shape (subhistory C h) calls has), calls.takes)

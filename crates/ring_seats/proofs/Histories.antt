@@ -1,17 +1,16 @@
 -- What histories of bits say about a side and a bit's word, event by event.
-use Rattle.std.proofs.Common.{◌≡◌, ◌⊎◌, inl, inr, ℕ, Bool, true, false, Option, Some, None, List, [], ◌∷◌, ◌++◌, refl, ap, sym, ◌∙◌}
+use Rattle.std.proofs.Common.{arith, rules, ◌≡◌, ◌⊎◌, ℕ, Bool, true, false, Option, Some, None, List, [], ◌∷◌, ◌++◌, ap, ◌∙◌}
 use Rattle.std.specs.Prelude.{unwrap_or, if◌then◌else◌}
 use Rattle.bits_core.specs.declared.events.Side.{Side}
-use Rattle.bits_core.specs.declared.events.Side.TheVariants.{P, C}
 use Rattle.bits_core.specs.declared.events.Bit.{Bit}
 use Rattle.bits_core.specs.declared.events.Act.{Act}
 use Rattle.bits_core.specs.declared.events.Act.TheVariants.{ReadBegin, ReadEnd, WriteBegin, WriteEnd}
 use Rattle.bits_core.specs.declared.events.Access.{Access}
-use Rattle.bits_core.specs.declared.events.Access.TheVariants.{Read, Write}
+use Rattle.bits_core.specs.declared.events.Access.TheVariants.{Write}
 use Rattle.bits_core.specs.declared.events.Event.{Event}
 use Rattle.bits_core.specs.declared.shapes.Shape.{Shape}
 use Rattle.bits_core.specs.Bits.{other, writer, reader, same_side, same_bit, is_by, begun_by, write_of, value_written}
-use Rattle.bits_core.specs.History.{before_last, open_access, open_write, held, is_overlapped}
+use Rattle.bits_core.specs.History.{before_last, open_access, open_write, held}
 use Rattle.bits_core.specs.Lawful.{IsLawful}
 use Rattle.bits_core.specs.Steps.{MayFollow, IsAnswer}
 use Rattle.bits_core.specs.Made.{subhistory}
@@ -28,10 +27,7 @@ pub use Rattle.bits_core.proofs.MarkLemmas.{by_other as same_side-other}
 -- ---- sides
 
 pub either_side : (x y : Side) → (y ≡ x) ⊎ (y ≡ other x)
-either_side P P = inl refl
-either_side P C = inr refl
-either_side C P = inr refl
-either_side C C = inl refl
+either_side x y = grind arith
 
 -- ---- what one event changes
 
@@ -53,11 +49,7 @@ before_last-mine s h e by = before_last_changes s h e ∙ ap (λ t. if t then h 
 -- the word of a bit after one more event
 shown-more : (shape : Shape) (b : Bit) (h : List Event) (e : Event) → IsLawful shape h →
     shown b (h ++ e ∷ []) ≡ (if is_by (writer b) e then word_shown (write_of b e) (unwrap_or (open_write b h) (held b h)) else shown b h)
-shown-more shape b h e lawful =
-    (λ i. word_shown (open_write_changes b h e i) (held_changes shape b h e lawful i)) ∙
-    elim (is_by (writer b) e) as (λ t.
-    word_shown (if t then write_of b e else open_write b h) (if t then unwrap_or (open_write b h) (held b h) else held b h) ≡
-    (if t then word_shown (write_of b e) (unwrap_or (open_write b h) (held b h)) else shown b h)) [ true ↦ refl | false ↦ refl ]
+shown-more shape b h e lawful = grind (arith, held_changes, open_write_changes)
 
 shown-theirs : (shape : Shape) (b : Bit) (h : List Event) (e : Event) → IsLawful shape h → is_by (writer b) e ≡ false → shown b (h ++ e ∷ []) ≡ shown b h
 shown-theirs shape b h e lawful by = shown-more shape b h e lawful ∙ ap (λ t. if t then word_shown (write_of b e) (unwrap_or (open_write b h) (held b h)) else shown b h) by
@@ -68,9 +60,7 @@ shown-mine shape b h e lawful by = shown-more shape b h e lawful ∙ ap (λ t. i
 
 -- if no write of the bit is open, and none begins
 calm : (shape : Shape) (b : Bit) (h : List Event) (e : Event) → IsLawful shape h → open_write b h ≡ None → write_of b e ≡ None → shown b (h ++ e ∷ []) ≡ shown b h
-calm shape b h e lawful none not_begun = by_case (is_by (writer b) e)
-    (λ by. shown-mine shape b h e lawful by ∙ (λ i. word_shown (not_begun i) (unwrap_or (none i) (held b h))) ∙ sym (ap (λ o. word_shown o (held b h)) none))
-    (λ by. shown-theirs shape b h e lawful by)
+calm shape b h e lawful none not_begun = grind (arith, by_case, shown-mine, shown-theirs)
 
 -- the open write of a bit, by the open access of its writer
 open_write-of : (x : Side) (b : Bit) (h : List Event) (o : Option Access) → same_side (writer b) x ≡ true → open_access x h ≡ o → open_write b h ≡ value_written b o
@@ -78,51 +68,27 @@ open_write-of x b h o by at = ap (λ s. value_written b (open_access s h)) (same
 
 module _ (shape : Shape) (x : Side) (c : Bit) (h : List Event) (lawful : IsLawful shape h) where
   pub shown-read_begin : MayFollow shape h (event x c ReadBegin) → (b : Bit) → shown b (h ++ event x c ReadBegin ∷ []) ≡ shown b h
-  shown-read_begin may b = by_case (same_side (writer b) x)
-      (λ by. calm shape b h (event x c ReadBegin) lawful (open_write-of x b h None by may.in_turn) refl)
-      (λ by. shown-theirs shape b h (event x c ReadBegin) lawful by)
+  shown-read_begin may b = grind (arith, by_case, calm, open_write-of, shown-theirs)
 
   pub shown-read_end : (v : Bool) → MayFollow shape h (event x c (ReadEnd v)) → (b : Bit) → shown b (h ++ event x c (ReadEnd v) ∷ []) ≡ shown b h
-  shown-read_end v may b = by_case (same_side (writer b) x)
-      (λ by. calm shape b h (event x c (ReadEnd v)) lawful (open_write-of x b h (Some (Read c)) by may.in_turn) refl)
-      (λ by. shown-theirs shape b h (event x c (ReadEnd v)) lawful by)
+  shown-read_end v may b = grind (arith, by_case, calm, open_write-of, shown-theirs)
 
   -- a bit other than the event's
   pub shown-apart : (a : Act) → MayFollow shape h (event x c a) → (b : Bit) → same_bit b c ≡ false → shown b (h ++ event x c a ∷ []) ≡ shown b h
-  shown-apart ReadBegin may b apart = shown-read_begin may b
-  shown-apart (ReadEnd v) may b apart = shown-read_end v may b
-  shown-apart (WriteBegin v) may b apart = by_case (same_side (writer b) x)
-      (λ by. calm shape b h (event x c (WriteBegin v)) lawful (open_write-of x b h None by may.in_turn) (ap (λ t. if t then Some v else None) apart))
-      (λ by. shown-theirs shape b h (event x c (WriteBegin v)) lawful by)
-  shown-apart WriteEnd may b apart = by_case (same_side (writer b) x)
-      (λ by. calm shape b h (event x c WriteEnd) lawful (open_write-of x b h (Some (Write c may.in_turn.0)) by may.in_turn.1 ∙ ap (λ t. if t then Some may.in_turn.0 else None) apart) refl)
-      (λ by. shown-theirs shape b h (event x c WriteEnd) lawful by)
+  shown-apart a h1 b h2 = grind (arith, by_case, calm, open_write-of, shown-read_begin, shown-read_end, shown-theirs)
 
   pub shown-write_begin : (v : Bool) → x ≡ writer c → shown c (h ++ event x c (WriteBegin v) ∷ []) ≡ 2
-  shown-write_begin v is =
-      shown-mine shape c h (event x c (WriteBegin v)) lawful (ap (same_side (writer c)) is ∙ same_side-same (writer c)) ∙
-      ap (λ t. word_shown (if t then Some v else None) (unwrap_or (open_write c h) (held c h))) (same_bit-same c)
+  shown-write_begin v is = grind (arith, same_bit-same, same_side-same, shown-mine)
 
   pub shown-write_end : (v : Bool) → x ≡ writer c → open_access x h ≡ Some (Write c v) → shown c (h ++ event x c WriteEnd ∷ []) ≡ value_word v
-  shown-write_end v is at =
-      let by : same_side (writer c) x ≡ true = ap (same_side (writer c)) is ∙ same_side-same (writer c) in
-      let writes : open_write c h ≡ Some v = open_write-of x c h (Some (Write c v)) by at ∙ ap (λ t. if t then Some v else None) (same_bit-same c) in
-      shown-mine shape c h (event x c WriteEnd) lawful by ∙ ap (λ o. value_word (unwrap_or o (held c h))) writes
+  shown-write_end v is at = grind (arith, open_write-of, same_bit-same, same_side-same, shown-mine)
 
 -- ---- the two loads of a read
 
 answer-small : (n : ℕ) (said : Bool) (v : Bool) → n ≡ value_word v → answer_of n n said ≡ v
-answer-small n said true e = rw e refl
-answer-small n said false e = rw e refl
+answer-small n said v h1 = grind arith
 
 -- the answer made from two loads is permitted
 pub permitted : (shape : Shape) (x : Side) (b : Bit) (h : List Event) (first found : ℕ) (said : Bool) → IsLawful shape h → x ≡ reader b →
     first ≡ shown b (before_last x h) → found ≡ shown b h → IsAnswer h x b (answer_of first found said)
-permitted shape x b h first found said lawful is begin now = by_case (is_overlapped x b h)
-    (λ over. inl over)
-    (λ over.
-    let (none, none_then, still) = quiet_is_held shape h x b lawful is over in
-    let v : Bool = held b (before_last x h) in
-    let value : first ≡ value_word v = begin ∙ ap (λ o. word_shown o v) none_then in
-    let value' : found ≡ value_word v = now ∙ ap (λ o. word_shown o (held b h)) none ∙ ap value_word still in
-    inr (ap (λ n. answer_of first n said) (value' ∙ sym value) ∙ answer-small first said v value))
+permitted shape x b h first found said lawful is begin now = search (rules, answer-small, by_case, quiet_is_held)

@@ -6,15 +6,11 @@ use mathlib.Core.Option.{some, some-injective, some-ne-none}
 use lib.ListN.{get_elem?}
 use Rattle.atomic_table.specs.Table.{Final, Seen}
 use Rattle.bits_core.specs.declared.shapes.Shape.{Shape}
-use Rattle.bits_core.specs.declared.events.Side.{Side}
 use Rattle.bits_core.specs.declared.events.Side.TheVariants.{P, C}
-use Rattle.bits_core.specs.declared.events.Bit.{Bit}
-use Rattle.bits_core.specs.declared.events.Act.{Act}
 use Rattle.bits_core.specs.declared.events.Event.{Event}
-use Rattle.bits_core.specs.Bits.{is_by}
 use Rattle.bits_core.specs.Made.{subhistory, IsPrefix}
 use Rattle.ring_seats.specs.declared.views.View.{View}
-use Rattle.ring_seats.specs.Rule.{event, KeptBy, SeatKnows}
+use Rattle.ring_seats.specs.Rule.{KeptBy, SeatKnows}
 use Rattle.ring_seats.specs.Meetings.{KnowsAll}
 
 -- the word found at a place
@@ -30,17 +26,11 @@ adds_none xs ys e = ap length (append_cancel_left xs ys [] (e ∙ sym (append-ni
 -- a list with events of neither side is empty
 no_events : (l : List Event) → length (subhistory P l) ≡ 0 → length (subhistory C l) ≡ 0 → l ≡ []
 no_events [] p c = refl
-no_events (e ∷ l) p c = absurd (by e.side e.bit e.act p c)
-  where
-    by : (x : Side) (b : Bit) (a : Act) → length (subhistory P (event x b a ∷ l)) ≡ 0 → length (subhistory C (event x b a ∷ l)) ≡ 0 → ⊥
-    by P b a p c = omega (arith, p)
-    by C b a p c = omega (arith, c)
+no_events (e ∷ l) p c = grind arith
 
 -- a history that begins with another, and has the same two sides, is that history
 same_sides : (known h : List Event) → IsPrefix known h → subhistory P h ≡ subhistory P known → subhistory C h ≡ subhistory C known → h ≡ known
-same_sides known h (rest, is) p c =
-    let adds : (x : Side) → subhistory x h ≡ subhistory x known → length (subhistory x rest) ≡ 0 = λ x same. adds_none (subhistory x known) (subhistory x rest) (sym (filter-append (is_by x) known rest) ∙ (ap (subhistory x) is ∙ same)) in
-    sym is ∙ (ap (λ (l : List Event). known ++ l) (no_events rest (adds P p) (adds C c)) ∙ append-nil known)
+same_sides known h (rest, is) p c = grind (arith, adds_none, append-nil, filter-append, no_events)
 
 -- the words of the last state show what the seat knows
 pub last_shows : (count : Shape → ℕ) (IsShown : Shape → List ℕ → List Event → Type 0) (shape : Shape) (id : ℕ) (v : View) (words : List ℕ) (slots : List (Unit {0})) → KnowsAll v

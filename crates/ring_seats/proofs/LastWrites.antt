@@ -1,5 +1,5 @@
 -- The last writes of a row in a list of its writer's events, and what they result in.
-use Rattle.std.proofs.Common.{◌≡◌, ◌≢◌, ◌⊎◌, inl, inr, ℕ, zero, suc, ◌<◌, Bool, true, false, cond, nat_eq, Option, Some, None, List, [], ◌∷◌, ◌++◌, ◌==◌, refl, ap, sym, subst, ◌∙◌, arith, append_assoc, append-nil, eq-eqb}
+use Rattle.std.proofs.Common.{◌≡◌, ◌⊎◌, inl, inr, ℕ, zero, suc, ◌<◌, Bool, true, false, cond, nat_eq, Option, Some, None, List, [], ◌∷◌, ◌++◌, ◌==◌, refl, ap, sym, subst, ◌∙◌, arith, append_assoc, append-nil}
 use Rattle.std.specs.Prelude.{if◌then◌else◌, unwrap_or}
 use Rattle.std.specs.List.{cons_option}
 use Rattle.std.proofs.lemmas.Bool.Decides.{nat_tests}
@@ -8,12 +8,12 @@ use Rattle.std.proofs.lemmas.List.Elements.{filter_map-append}
 use Rattle.std.proofs.Math.Nat.{mod-eq_of_lt}
 use Rattle.bits_core.specs.declared.shapes.Shape.{Shape}
 use Rattle.bits_core.specs.declared.events.Side.{Side}
-use Rattle.bits_core.specs.declared.events.Side.TheVariants.{P, C}
+use Rattle.bits_core.specs.declared.events.Side.TheVariants.{P}
 use Rattle.bits_core.specs.declared.events.Bit.{Bit}
 use Rattle.bits_core.specs.declared.events.Bit.TheVariants.{Cell}
 use Rattle.bits_core.specs.declared.events.Event.{Event}
 use Rattle.bits_core.specs.Shape.{modulus_of}
-use Rattle.bits_core.specs.Bits.{writer, same_bit, is_by, first_value, write_of, value_written}
+use Rattle.bits_core.specs.Bits.{writer, same_bit, first_value, write_of, value_written}
 use Rattle.bits_core.specs.History.{open_access, open_write, held, writes_begun, last_value}
 use Rattle.bits_core.specs.Lawful.{IsLawful}
 use Rattle.bits_core.specs.Made.{Made, Read, Write, events_of, subhistory}
@@ -69,13 +69,7 @@ abbrev pub IsLast : Side → (ℕ → Bit) → (List Event → List Made) → Li
 IsLast x row made list v = AreLast x row made list ⊎ (NoWriteOf row list × (v ≡ 0))
 
 pub stays_last : (x : Side) (row : ℕ → Bit) (made : List Event → List Made) (list es : List Event) (v : ℕ) → NoWriteOf row es → IsLast x row made list v → IsLast x row made (list ++ es) v
-stays_last x row made list es v none (inl a) = inl (record {
-  before = a.before;
-  after = a.after ++ es;
-  list_is = ap (λ (l : List Event). l ++ es) a.list_is ∙ append_assoc (a.before ++ events_of x (made a.before)) a.after es;
-  none = none_more row a.after es a.none none;
-})
-stays_last x row made list es v none (inr t) = inr (none_more row list es t.0 none, t.1)
+stays_last x row made list es v h1 h2 = grind (arith, after, append_assoc, none_more)
 
 pub is_last_now : (x : Side) (row : ℕ → Bit) (made : List Event → List Made) (list : List Event) → AreLast x row made (list ++ events_of x (made list))
 is_last_now x row made list = record { before = list; after = []; list_is = sym (append-nil (list ++ events_of x (made list))); none = λ i. refl }
@@ -83,11 +77,7 @@ is_last_now x row made list = record { before = list; after = []; list_is = sym 
 -- ---- what they result in
 
 left_last : (x : Side) (row : ℕ → Bit) (made : List Event → List Made) (list : List Event) (a : AreLast x row made list) (i : ℕ) → value_left list (row i) ≡ after (value_left a.before) (made a.before) (row i)
-left_last x row made list a i =
-    let so_far : List Event = a.before ++ events_of x (made a.before) in
-    ap (λ (l : List Event). value_left l (row i)) a.list_is ∙
-    (ap (last_value (first_value (row i))) (writes_more (row i) so_far a.after ∙ (ap (λ l. writes_begun (row i) so_far ++ l) (a.none i) ∙ append-nil (writes_begun (row i) so_far))) ∙
-    left_by-made x (made a.before) a.before (row i))
+left_last x row made list a i = grind (arith, append-nil, left_by-made, writes_more)
 
 left_first : (row : ℕ → Bit) (list : List Event) → NoWriteOf row list → (i : ℕ) → value_left list (row i) ≡ first_value (row i)
 left_first row list none i = ap (last_value (first_value (row i))) (none i)
@@ -98,21 +88,11 @@ abbrev Left : Bit → List Event → Type 0
 Left b h = unwrap_or (open_write b h) (held b h) ≡ value_left (subhistory (writer b) h) b
 
 after_one : (o : Option Bool) (u v : Bool) → u ≡ v → unwrap_or o u ≡ last_value v (cons_option o [])
-after_one None u v e = e
-after_one (Some w) u v e = refl
+after_one o u v h1 = grind arith
 
 module _ (shape : Shape) (b : Bit) where
   one_left : (h : List Event) (e : Event) → IsLawful shape h → Left b h → Left b (h ++ e ∷ [])
-  one_left h e lawful is =
-      let list : List Event = subhistory (writer b) h in
-      let so_far : Bool = unwrap_or (open_write b h) (held b h) in
-      let mine : unwrap_or (write_of b e) so_far ≡ value_left (list ++ e ∷ []) b =
-      after_one (write_of b e) so_far (value_left list b) is ∙
-      sym (ap (last_value (first_value b)) (writes_more b list (e ∷ [])) ∙ last_append (first_value b) (writes_begun b list) (writes_begun b (e ∷ []))) in
-      (λ i. unwrap_or (open_write_changes b h e i) (held_changes shape b h e lawful i)) ∙
-      (elim (is_by (writer b) e) as (λ t.
-      unwrap_or (if t then write_of b e else open_write b h) (if t then so_far else held b h) ≡ value_left (if t then list ++ e ∷ [] else list) b) [ true ↦ mine | false ↦ is ] ∙
-      ap (λ (l : List Event). value_left l b) (sym (subhistory_changes (writer b) h e)))
+  one_left h e lawful is = grind (arith, after_one, held_changes, last_append, open_write_changes, subhistory_changes, writes_more)
 
   all_left : (ys xs : List Event) → IsLawful shape (xs ++ ys) → Left b xs → Left b (xs ++ ys)
   all_left [] xs lawful is = subst (Left b) (sym (append-nil xs)) is
@@ -136,8 +116,7 @@ row_written row tells (w ∷ ws) bits old is i =
     (λ k. ap (λ t. if t then w.value else bits (row k)) (tells k w.bit) ∙ (test_same k w.bit w.value (bits (row k)) ∙ ap (λ u. cond (nat_eq k w.bit) w.value u) (is k))) i
 
 pub row_tells : (x : Side) (i k : ℕ) → same_bit (row_bit x i) (row_bit x k) ≡ (i == k)
-row_tells P i k = refl
-row_tells C i k = refl
+row_tells x i k = grind arith
 
 -- ---- a count shows the value of its last write
 
@@ -152,10 +131,6 @@ unary_lowest shape old v lt =
     let is = (counts_are_written_numbers shape).1 count 0 [] in
     subst (λ (n : ℕ). Lowest (bits_after old (unary_phrase old n)) n) (mod-eq_of_lt lt) (record { set = is.set; clear = is.clear })
 
-first_lowest : (x : Side) → Lowest (λ i. first_value (row_bit x i)) 0
-first_lowest P = record { set = refl; clear = λ i lt. absurd (omega (arith, lt)) }
-first_lowest C = record { set = refl; clear = λ i lt. absurd (omega (arith, lt)) }
-
 lowest_same : (f g : ℕ → Bool) (c : ℕ) → ((i : ℕ) → g i ≡ f i) → Lowest f c → Lowest g c
 lowest_same f g c same is = record { set = same c ∙ is.set; clear = λ i lt. same i ∙ is.clear i lt }
 
@@ -165,28 +140,19 @@ count_shows shape x list c lt (inl a) =
     lowest_same (bits_after old (unary_phrase old c)) (λ i. value_left list (row_bit x i)) c
     (λ i. left_last x (row_bit x) (λ before. unary_over x before c) list a i ∙ row_written (row_bit x) (row_tells x) (unary_phrase old c) (value_left a.before) old (λ k. refl) i)
     (unary_lowest shape old c lt)
-count_shows shape x list c lt (inr t) = subst (Lowest (λ i. value_left list (row_bit x i))) (sym t.1)
-    (lowest_same (λ i. first_value (row_bit x i)) (λ i. value_left list (row_bit x i)) 0 (left_first (row_bit x) list t.0) (first_lowest x))
+count_shows shape x list c lt (inr t) = grind arith
 
 -- ---- a cell shows the item last written to it
 
 same_cell : (j i k : ℕ) → same_bit (Cell j i) (Cell j k) ≡ (i == k)
 same_cell j i k = grind (arith, nat_tests)
 
-not_eq : (i n : ℕ) → i ≢ n → (i == n) ≡ false
-not_eq i n ne = grind (arith, nat_tests)
-
 one_digit : (item n i : ℕ) (u : Bool) → (i < n → u ≡ digit i item) → (i ≡ n) ⊎ (i < n) → (if i == n then digit n item else u) ≡ digit i item
-one_digit item n i u was (inl e) = ap (λ t. if t then digit n item else u) (eq-eqb i n e) ∙ ap (λ (k : ℕ). digit k item) (sym e)
-one_digit item n i u was (inr lt) = ap (λ t. if t then digit n item else u) (not_eq i n (λ (e : i ≡ n). omega (arith, lt, e))) ∙ was lt
+one_digit item n i u h1 h2 = grind arith
 
 word_written : (j item n : ℕ) (bits : Bit → Bool) (i : ℕ) → i < n → after bits (writes_in (Cell j) (digit_writes item n)) (Cell j i) ≡ digit i item
 word_written j item zero bits i lt = absurd (omega (arith, lt))
-word_written j item (suc n) bits i lt =
-    ap (λ (l : List Made). after bits l (Cell j i)) (map-append (λ (w : RowWrite). Write (Cell j w.bit) w.value) (digit_writes item n) (record { bit = n; value = digit n item } ∷ [])) ∙
-    (after-append (writes_in (Cell j) (digit_writes item n)) (Write (Cell j n) (digit n item) ∷ []) bits (Cell j i) ∙
-    (ap (λ t. if t then digit n item else after bits (writes_in (Cell j) (digit_writes item n)) (Cell j i)) (same_cell j i n) ∙
-    one_digit item n i (after bits (writes_in (Cell j) (digit_writes item n)) (Cell j i)) (word_written j item n bits i) (at_or_below i n lt)))
+word_written j item (suc n) bits i lt = grind (arith, after, after-append, at_or_below, map-append, one_digit, same_cell, (word_written j item n bits i))
 
 pub item_shows : (width j : ℕ) (list : List Event) (item : ℕ) → IsLastItem width j list item → (i : ℕ) → i < width → value_left list (Cell j i) ≡ digit i item
 item_shows width j list item (inl a) i lt = left_last P (Cell j) (λ before. word_write width j item) list a i ∙ word_written j item width (value_left a.before) i lt

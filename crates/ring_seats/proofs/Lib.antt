@@ -14,3 +14,4 @@ pub mod Moves
 pub mod Places
 pub mod Rights
 pub mod TheTable
+pub mod Grown

@@ -1,5 +1,5 @@
 -- Each step preserves the rule of the ring.
-use Rattle.std.proofs.Common.{◌≡◌, ◌≢◌, ℕ, zero, suc, ◌<◌, Bool, true, false, true≢false, ◌⊎◌, List, [], ◌∷◌, ◌++◌, replicate, length, get_or, set, slice_index, Some, None, sym, refl, ap, ◌∙◌, subst, inl, inr, ⊎_elim, append_assoc, append-nil, length-set, get_or-set_same, get_or-set_other}
+use Rattle.std.proofs.Common.{arith, rules, ◌≡◌, ◌≢◌, ℕ, zero, suc, Bool, true, false, true≢false, ◌⊎◌, List, [], ◌∷◌, ◌++◌, length, get_or, set, slice_index, Some, None, sym, refl, ap, ◌∙◌, subst, inl, inr, ⊎_elim, append_assoc, append-nil, length-set, get_or-set_same, get_or-set_other}
 use Rattle.std.specs.Prelude.{if◌then◌else◌}
 use Rattle.std.proofs.lemmas.List.{length-replicate}
 use Rattle.std.proofs.lemmas.Bool.{cases_eq}
@@ -23,10 +23,10 @@ use Rattle.bits_core.specs.Lawful.{IsLawful}
 use Rattle.bits_core.specs.Steps.{MayFollow}
 use Rattle.bits_core.specs.Made.{subhistory, IsPrefix}
 use Rattle.ring_seats.specs.declared.views.View.{View}
-use Rattle.ring_seats.specs.declared.layout.TheConstants.{FIRST_S}
-use Rattle.ring_seats.specs.Words.{value_word, shown, answer_of, first_r, word_place, word_count, first_words, Shows}
+use Rattle.ring_seats.specs.Words.{value_word, shown, answer_of, word_place, word_count, first_words, Shows}
 use Rattle.ring_seats.specs.Programs.{Follows, IsRing, GoesOn}
-use Rattle.ring_seats.specs.Rule.{event, joint, spent, putter_of, taker_of, joined, may_step, list_of, kept_load, and_event, IsIdle, FirstLoad, SeatKnows, SeatsKnow, HasSeats, KeptBy, KeepsFlickerRule, IsWordFound, Added, Learned}
+use Rattle.ring_seats.specs.Rule.{event, joint, spent, putter_of, taker_of, joined, may_step, list_of, IsIdle, FirstLoad, SeatKnows, SeatsKnow, HasSeats, KeptBy, KeepsFlickerRule, IsWordFound, Learned}
+use Rattle.ring_seats.proofs.Grown.{kept_load, and_event, Added}
 use Rattle.ring_seats.proofs.Places.{one_or_apart, place_below, shows_first}
 use Rattle.ring_seats.proofs.Histories.{same_side-same, either_side, before_last-mine, before_last-theirs, own-mine, own-theirs, open-mine, open-theirs, shown-read_begin, shown-read_end, shown-apart, shown-write_begin, shown-write_end, permitted, same_side-other as not_by}
 use Rattle.bits_core.proofs.LawLemmas.{empty_is_lawful, lawful_by_one_more, open_from_own}
@@ -46,8 +46,7 @@ ring_more shape C h e by r may f = record { puts = r.puts; takes = f.0; run = ru
 
 -- each side of such a history follows its program
 pub ring_follows : (shape : Shape) (h : List Event) → IsRing shape h → (x : Side) → Follows shape x (subhistory x h)
-ring_follows shape h r P = (r.puts, r.run.puts_follow.are, r.run.puts_follow.events)
-ring_follows shape h r C = (r.takes, r.run.takes_follow.are, r.run.takes_follow.events)
+ring_follows shape h h1 x = grind arith
 
 -- a history with no event
 pub ring_empty : (shape : Shape) → IsRing shape []
@@ -62,12 +61,10 @@ ring_empty shape = record {
 }
 
 pub list_of-mine : (x : Side) (e : Event) (got : ℕ) (v : View) → list_of x (and_event x e got v) ≡ list_of x v ++ e ∷ []
-list_of-mine P e got v = refl
-list_of-mine C e got v = refl
+list_of-mine x e got v = grind arith
 
 pub may_step-more : (x y : Side) (e : Event) (got : ℕ) (v : View) → may_step y (and_event x e got v) ≡ may_step y v
-may_step-more x P e got v = refl
-may_step-more x C e got v = refl
+may_step-more x y e got v = grind arith
 
 -- ---- for each side there is a seat that may step for it
 
@@ -89,52 +86,25 @@ each_stays owner views id v w at may each y =
 
 -- what is open after a step
 pub opened_by : (x : Side) (b : Bit) (a : Act) (got : ℕ) (v w : View) → w ≡ and_event x (event x b a) got v → open_access x (list_of x w) ≡ Rattle.bits_core.specs.Bits.begun_access b a
-opened_by x b a got v w is =
-    ap (λ (u : View). open_access x (list_of x u)) is ∙ ap (open_access x) (list_of-mine x (event x b a) got v) ∙ open-mine x (list_of x v) (event x b a) (same_side-same x)
+opened_by x b a got v w is = grind (arith, list_of-mine, open-mine, same_side-same)
 
 module _ (shape : Shape) where
   shows_more : (words : List ℕ) (x : Side) (b : Bit) (a : Act) (h : List Event) (new : ℕ) → IsLawful shape h → MayFollow shape h (event x b a) → length words ≡ word_count shape → belongs shape b ≡ true → Shows shape words h → new ≡ shown b (h ++ event x b a ∷ [])
       → Shows shape (set words (word_place shape b) new) (h ++ event x b a ∷ [])
-  shows_more words x b a h new lawful may wide has shows is c has' = ⊎_elim
-      (λ (same : b ≡ c). let lt : word_place shape b < length words = subst (λ (n : ℕ). word_place shape b < n) (sym wide) (place_below shape b has) in
-      subst (λ (d : Bit). get_or (set words (word_place shape b) new) (word_place shape d) 0 ≡ shown d (h ++ event x b a ∷ [])) same (get_or-set_same words (word_place shape b) new 0 lt ∙ is))
-      (λ (apart : (same_bit c b ≡ false) × (word_place shape c ≢ word_place shape b)).
-      let ne : word_place shape c ≢ word_place shape b = apart.1 in
-      get_or-set_other words (word_place shape b) (word_place shape c) new 0 ne ∙ (shows c has' ∙ sym (shown-apart shape x b h lawful a may c apart.0)))
-      (one_or_apart shape b c has has')
+  shows_more words x b a h new lawful may wide has shows is c has' = grind (arith, get_or-set_other, get_or-set_same, one_or_apart, place_below, set, shown-apart)
 
   load_mine : (x : Side) (b : Bit) (a : Act) (h : List Event) (got load : ℕ) → (a ≡ ReadBegin → got ≡ shown b h) → FirstLoad x (h ++ event x b a ∷ []) (kept_load a got load)
-  load_mine x b a h got load is c o =
-      go a is (sym (open-mine x h (event x b a) (same_side-same x)) ∙ o) ∙ sym (ap (shown c) (before_last-mine x h (event x b a) (same_side-same x)))
-    where
-      go : (a : Act) → (a ≡ ReadBegin → got ≡ shown b h) → Rattle.bits_core.specs.Bits.begun_access b a ≡ Some (Read c) → kept_load a got load ≡ shown c h
-      go ReadBegin is o = let same : b ≡ c = cc in is refl ∙ ap (λ (d : Bit). shown d h) same
-      go (ReadEnd v) is o = absurd (cc)
-      go (WriteBegin v) is o = absurd (cc)
-      go WriteEnd is o = absurd (cc)
+  load_mine x b a h got load is c o = grind (arith, before_last-mine, open-mine, same_side-same)
 
   load_theirs : (x : Side) (b : Bit) (a : Act) (h : List Event) (load : ℕ) → FirstLoad (other x) h load → FirstLoad (other x) (h ++ event x b a ∷ []) load
-  load_theirs x b a h load f c o =
-      f c (sym (open-theirs (other x) h (event x b a) (not_by x)) ∙ o) ∙ sym (ap (shown c) (before_last-theirs (other x) h (event x b a) (not_by x)))
+  load_theirs x b a h load f c o = grind (arith, before_last-theirs, not_by, open-theirs)
 
   fits_mine : (x : Side) (b : Bit) (a : Act) (h known : List Event) (owner : Side → ℕ) (seat : ℕ) (v : View) (got : ℕ) → (a ≡ ReadBegin → got ≡ shown b h) → SeatKnows h known owner seat v x
       → SeatKnows (h ++ event x b a ∷ []) known owner seat (and_event x (event x b a) got v) x
-  fits_mine x b a h known owner seat v got is f = record {
-    at = f.at;
-    list = list_of-mine x (event x b a) got v ∙ (ap (λ (l : List Event). l ++ event x b a ∷ []) f.list ∙ sym (own-mine x h (event x b a) (same_side-same x)));
-    known_is = f.known_is;
-    known_by_taker_is = f.known_by_taker_is;
-    load = load_mine x b a h got v.first is;
-  }
+  fits_mine x b a h known owner seat v got is f = grind (arith, list_of-mine, load_mine, own-mine, same_side-same)
 
   fits_theirs : (x : Side) (b : Bit) (a : Act) (h known : List Event) (owner : Side → ℕ) (seat : ℕ) (v : View) → SeatKnows h known owner seat v (other x) → SeatKnows (h ++ event x b a ∷ []) known owner seat v (other x)
-  fits_theirs x b a h known owner seat v f = record {
-    at = f.at;
-    list = f.list ∙ sym (own-theirs (other x) h (event x b a) (not_by x));
-    known_is = f.known_is;
-    known_by_taker_is = f.known_by_taker_is;
-    load = load_theirs x b a h v.first f.load;
-  }
+  fits_theirs x b a h known owner seat v f = search (rules, load_theirs, not_by, own-theirs)
 
   seats_more : (x : Side) (b : Bit) (a : Act) (h known : List Event) (owner : Side → ℕ) (views : List View) (id : ℕ) (v : View) (got : ℕ)
       → get_elem? views id ≡ some v → may_step x v ≡ true → may_step (other x) v ≡ false → (a ≡ ReadBegin → got ≡ shown b h) → SeatsKnow h known owner views
@@ -392,8 +362,7 @@ knower v h = joint v.put v.taken h h
 
 -- the joint view may step for both sides
 knows_both : (v : View) (h : List Event) (y : Side) → may_step y (knower v h) ≡ true
-knows_both v h P = refl
-knows_both v h C = refl
+knows_both v h y = grind arith
 
 module _ (shape : Shape) where
   learn_seats : (h known : List Event) (owner : Side → ℕ) (views : List View) (id : ℕ) (v : View) → get_elem? views id ≡ some v → v.puts ≡ true → v.takes ≡ true → IsIdle P v.put → IsIdle C v.taken → SeatsKnow h known owner views
@@ -456,9 +425,7 @@ module _ (shape : Shape) where
 -- the ring before any step
 
 pub first_seat : (seat : ℕ) (v : View) → get_elem? (joint [] [] [] [] ∷ []) seat ≡ some v → (x : Side) → may_step x v ≡ true → SeatKnows [] [] (λ _. 0) seat v x
-first_seat zero v at P may = subst (λ (w : View). SeatKnows [] [] (λ _. 0) 0 w P) (some-injective _ _ at) (record { at = refl; list = refl; known_is = refl; known_by_taker_is = refl; load = λ b o. absurd (cc) })
-first_seat zero v at C may = subst (λ (w : View). SeatKnows [] [] (λ _. 0) 0 w C) (some-injective _ _ at) (record { at = refl; list = refl; known_is = refl; known_by_taker_is = refl; load = λ b o. absurd (cc) })
-first_seat (suc seat) v at x may = absurd (some-ne-none v (sym at))
+first_seat seat v h1 x h2 = grind arith
 
 pub first_each : HasSeats (λ _. 0) (joint [] [] [] [] ∷ [])
 first_each P = (joint [] [] [] [], refl, refl)
@@ -481,16 +448,12 @@ opens_so count IsShown shape words wide shows = record {
 }
 
 pub opens : (shape : Shape) → KeepsFlickerRule shape (opening (first_words shape) [] (joint [] [] [] []))
-opens shape =
-    opens_so word_count Shows shape (first_words shape)
-    (length-set (set (replicate (word_count shape) 0) FIRST_S 1) (first_r shape) 1 ∙ (length-set (replicate (word_count shape) 0) FIRST_S 1 ∙ length-replicate (word_count shape) 0))
-    (shows_first shape)
+opens shape = grind (arith, length-replicate, length-set, opens_so, set, shows_first)
 
 -- a load by no end
 
 never_steps : (x : Side) (u : View) → spent ≡ u → may_step x u ≡ true → ⊥
-never_steps P u same may = true≢false (sym may ∙ ap (λ (w : View). w.puts) (sym same))
-never_steps C u same may = true≢false (sym may ∙ ap (λ (w : View). w.takes) (sym same))
+never_steps x u h1 h2 = grind arith
 
 -- it finds the word of a state that satisfies the rule
 pub finds : (count : Shape → ℕ) (IsShown : Shape → List ℕ → List Event → Type 0) (shape : Shape) (slots place : ℕ) → Enters (KeptBy count IsShown shape) slots place (λ n _. IsWordFound (KeptBy count IsShown shape) place n)

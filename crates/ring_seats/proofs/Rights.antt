@@ -55,17 +55,13 @@ module _ (shape : Shape) where
 
   clearing_below : (n : ℕ) (bits : ℕ → Bool) (v : ℕ) → v ≤ n → BitsBelow n (clearing bits v)
   clearing_below n bits zero le = tt
-  clearing_below n bits (suc j) le =
-      let rest = clearing_below n bits j (omega (arith, le)) in
-      elim (bits j) as (λ t. BitsBelow n (cond t (record { bit = j; value = false } ∷ clearing bits j) (clearing bits j))) [ true ↦ (le, rest) | false ↦ rest ]
+  clearing_below n bits (suc j) le = grind (arith, (clearing_below n bits j (omega (arith, le))))
 
   some_modulus : 0 < modulus_of shape
   some_modulus = omega (arith, shape.has_cells, shape.room_to_count)
 
   pub unary_right : (s : Side) (bits : ℕ → Bool) (v : ℕ) → v < modulus_of shape → AllRight shape s (writes_in (row_bit s) (unary_phrase bits v))
-  unary_right s bits v lt =
-      writes_right s (row_bit s) (modulus_of shape) (row_bit_right shape s) (unary_phrase bits v)
-      (below-append (modulus_of shape) (setting bits v) (clearing bits v) (setting_below (modulus_of shape) bits v lt) (clearing_below (modulus_of shape) bits v (omega (arith, lt))))
+  unary_right s bits v lt = grind (arith, (below-append (modulus_of shape) (setting bits v) (clearing bits v) (setting_below (modulus_of shape) bits v lt) (clearing_below (modulus_of shape) bits v (omega (arith, lt)))), (clearing_below (modulus_of shape) bits v (omega (arith, lt))), (row_bit_right shape s), (setting_below (modulus_of shape) bits v lt), (writes_right s (row_bit s) (modulus_of shape) (row_bit_right shape s) (unary_phrase bits v) (below-append (modulus_of shape) (setting bits v) (clearing bits v) (setting_below (modulus_of shape) bits v lt) (clearing_below (modulus_of shape) bits v (omega (arith, lt))))))
 
   digits_below : (item n w : ℕ) → n ≤ w → BitsBelow w (digit_writes item n)
   digits_below item zero w le = tt

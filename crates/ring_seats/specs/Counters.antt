@@ -1,6 +1,6 @@
 -- The words of a counter ring: one for the close bit, one for each count, and one for each cell; and its rule.
-use Rattle.std.specs.Prelude.{◌≡◌, ◌⊎◌, ℕ, ◌+◌, ◌^◌, ◌<◌, Bool, true, false, None, List, [], ◌++◌, replicate, slice_index}
-use Rattle.atomic_table.specs.Table.{State, Me}
+use Rattle.std.specs.Prelude.{◌≡◌, ◌⊎◌, ℕ, ◌+◌, ◌^◌, ◌<◌, Bool, None, List, [], ◌++◌, replicate, slice_index}
+use Rattle.atomic_table.specs.Table.{State}
 use Rattle.bits_core.specs.declared.shapes.Shape.{Shape}
 use Rattle.bits_core.specs.declared.events.Side.{Side}
 use Rattle.bits_core.specs.declared.events.Side.TheVariants.{P, C}
@@ -8,7 +8,7 @@ use Rattle.bits_core.specs.declared.events.Bit.{Bit}
 use Rattle.bits_core.specs.declared.events.Bit.TheVariants.{X, Cell}
 use Rattle.bits_core.specs.declared.events.Event.{Event}
 use Rattle.bits_core.specs.Shape.{capacity_of, modulus_of, width_of}
-use Rattle.bits_core.specs.Bits.{other, first_value, same_side}
+use Rattle.bits_core.specs.Bits.{other, first_value}
 use Rattle.bits_core.specs.History.{open_access, held, writes_begun, last_value}
 use Rattle.bits_core.specs.Made.{Made, events_of, subhistory}
 use Rattle.register_core.specs.Row.{row_bit, writes_in}
@@ -18,7 +18,7 @@ use Rattle.ring_seats.specs.declared.views.View.{View}
 use Rattle.ring_seats.specs.Ring.{RingEnd}
 use Rattle.ring_seats.specs.Words as bits
 use Rattle.ring_seats.specs.Steppers.{IsSameEnd}
-use Rattle.ring_seats.specs.Rule.{KeptBy, list_of, Stands}
+use Rattle.ring_seats.specs.Rule.{KeptBy, Stands}
 
 -- ---- the words
 
@@ -89,32 +89,8 @@ KeptWords shape s = KeptBy words_of ShowsWords shape s
 
 -- ---- what a step reports
 
--- a side's list after a step of this seat, or of the other
-abbrev pub grown_by : Bool → List Event → List Event → List Event
-grown_by true es list = list ++ es
-grown_by false es list = list
-
--- the view after a step of its seat that adds the events
-abbrev pub and_events : Side → List Event → View → View
-and_events x es v = record { puts = v.puts; takes = v.takes; put = grown_by (same_side x P) es v.put; taken = grown_by (same_side x C) es v.taken; known = v.known; known_by_taker = v.known_by_taker; first = v.first; loads = v.loads }
-
--- complete accesses of the side were added to its list, given the number that a load found, or that a store wrote
-pub record AddedAll (shape : Shape) (x : Side) (made : ℕ → List Made) (Tells : ℕ → Type 0) (m : Me (Unit {0}) View) (found : ℕ) (m' : Me (Unit {0}) View) : Type 0 where
-  pub view : m'.0 ≡ and_events x (events_of x (made found)) m.0
-  pub carried : m'.1 ≡ m.1
-  pub tells : Tells found
-  pub stands : Stands shape x (list_of x m'.0) m'.0.known
-
 -- the accesses were added to the list, and nothing else changed. The list is one side of a lawful history
 pub record GrowsBy (a b : RingEnd) (made : List Made) : Type 0 where
   pub same : IsSameEnd a b
   pub list : b.list ≡ a.list ++ events_of a.side made
   pub stands : Stands b.ring.shape b.side b.list b.known
-
--- a number says nothing
-abbrev pub TellsNothing : ℕ → Type 0
-TellsNothing n = Unit {0}
-
--- or that it is below another
-abbrev pub IsBelow : ℕ → ℕ → Type 0
-IsBelow most n = n < most

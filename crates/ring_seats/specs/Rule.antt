@@ -1,5 +1,5 @@
 -- The rule of the ring over its words and views, and what its steps report.
-use Rattle.std.specs.Prelude.{◌≡◌, ℕ, ◌<◌, Bool, true, false, List, [], ◌∷◌, ◌++◌, length, slice_index, Some, None}
+use Rattle.std.specs.Prelude.{◌≡◌, ℕ, ◌<◌, Bool, true, false, List, [], length, slice_index, Some, None}
 use mathlib.Core.Option.{some}
 use lib.ListN.{get_elem?}
 use Rattle.atomic_table.specs.Table.{State, Me}
@@ -9,13 +9,10 @@ use Rattle.bits_core.specs.declared.events.Side.{Side}
 use Rattle.bits_core.specs.declared.events.Side.TheVariants.{P, C}
 use Rattle.bits_core.specs.declared.events.Bit.{Bit}
 use Rattle.bits_core.specs.declared.events.Act.{Act}
-use Rattle.bits_core.specs.declared.events.Act.TheVariants.{ReadBegin, ReadEnd, WriteBegin, WriteEnd}
 use Rattle.bits_core.specs.declared.events.Event.{Event}
 use Rattle.bits_core.specs.declared.events.Access.TheVariants.{Read}
-use Rattle.bits_core.specs.Bits.{same_side}
 use Rattle.bits_core.specs.History.{open_access, before_last}
 use Rattle.bits_core.specs.Made.{subhistory, IsPrefix}
-use Rattle.ring_seats.specs.declared.views.Loads.{Loads}
 use Rattle.ring_seats.specs.declared.views.View.{View}
 use Rattle.ring_seats.specs.Words.{shown, word_count, Shows}
 use Rattle.ring_seats.specs.Programs.{IsRing}
@@ -55,29 +52,6 @@ may_step C v = v.takes
 abbrev pub list_of : Side → View → List Event
 list_of P v = v.put
 list_of C v = v.taken
-
--- the first load of the open read after an event
-abbrev pub kept_load : Act → ℕ → ℕ → ℕ
-kept_load ReadBegin found n = found
-kept_load (ReadEnd a) found n = n
-kept_load (WriteBegin v) found n = n
-kept_load WriteEnd found n = n
-
--- the loads of the reads that have ended, by the first load of the read that may end here
-abbrev pub kept_loads : Act → ℕ → ℕ → List Loads → List Loads
-kept_loads ReadBegin first found loads = loads
-kept_loads (ReadEnd a) first found loads = loads ++ record { first = first; found = found } ∷ []
-kept_loads (WriteBegin v) first found loads = loads
-kept_loads WriteEnd first found loads = loads
-
--- a list with one more event, if it is the side's
-abbrev pub grown : Bool → Event → List Event → List Event
-grown true e list = list ++ e ∷ []
-grown false e list = list
-
--- the view after a step of its seat that adds e, which found or wrote a number
-abbrev pub and_event : Side → Event → ℕ → View → View
-and_event x e found v = record { puts = v.puts; takes = v.takes; put = grown (same_side x P) e v.put; taken = grown (same_side x C) e v.taken; known = v.known; known_by_taker = v.known_by_taker; first = kept_load e.act found v.first; loads = kept_loads e.act v.first found v.loads }
 
 -- A table is new: its key is the shape, it has this many words, at least one, and no slots. Its one seat steps for both sides,
 -- which have made no event
@@ -142,12 +116,6 @@ pub record Stands (shape : Shape) (x : Side) (list known : List Event) : Type 0 
   pub ring : IsRing shape history
   pub list_is : subhistory x history ≡ list
   pub begins : IsPrefix known history
-
--- the step of a seat added this event, and the seat's list is one side of a lawful history
-pub record Added (shape : Shape) (e : ℕ → Event) (m : Me (Unit {0}) View) (found : ℕ) (m' : Me (Unit {0}) View) : Type 0 where
-  pub view : m'.0 ≡ and_event ((e found).side) (e found) found m.0
-  pub carried : m'.1 ≡ m.1
-  pub stands : Stands shape ((e found).side) (list_of ((e found).side) m'.0) m'.0.known
 
 -- the history is lawful, its sides are the lists and follow their programs, and it begins with what both sides knew
 pub record Holds (shape : Shape) (h : List Event) (v : View) : Type 0 where

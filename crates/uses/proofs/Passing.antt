@@ -12,17 +12,16 @@ use Rattle.ring_core.specs.declared.replies.PutReply.{PutReply}
 use Rattle.ring_core.specs.declared.replies.PutReply.TheVariants as single
 use Rattle.ring_core.specs.declared.replies.TakeReply.{TakeReply}
 use Rattle.ring_core.specs.Puts.{IsBatch}
-use Rattle.ring_core.specs.Readings.{PutsAreRead, TakesAreRead}
 use Rattle.ring_core.specs.ConsumerCalls.{reply_items}
-use Rattle.ring_core.specs.OneCallMore.{TakesOfOne}
 use Rattle.ring_run.specs.Ring.{RingEnd}
 use Rattle.ring_run.specs.Meetings.{Meets}
 use Rattle.ring_run.specs.Ends.{HasPuts, HasPut, HasTakes, HasTaken}
 use Rattle.ring_run.specs.Counters.{ShowsWords}
 use Rattle.ring_run.specs.Laws.{PutsAreShown, TakesAreShown}
-use Rattle.ring_run.specs.Stored.{HasStored, HasTook}
+use Rattle.ring_run.specs.Steppers.{IsSameEnd}
+use Rattle.ring_run.specs.Stored.{HasStored, HasTook, item_stored}
 use Rattle.ring_ends.proofs.Passed.{takes_here}
-use Rattle.ring_ends.proofs.StoredItems.{none_stored, one_full, one_late, one_stored, none_took, took_more}
+use Rattle.ring_ends.proofs.StoredItems.{none_stored, none_took, put_stores, take_takes}
 pub use Rattle.ring_core.proofs.Machines.ConsumerMoves.{item_fits as fit_snoc}
 pub use Rattle.ring_core.proofs.Recorded.RecordedStates.{longer as then_begins}
 
@@ -89,13 +88,20 @@ module _ (p c : RingEnd) (same : p.ring ≡ c.ring) (h : List Event) (meets : Me
 emptied : RingEnd → RingEnd
 emptied e = record { ring = e.ring; side = e.side; list = []; known = e.known; loads = e.loads }
 
--- the first put of an item stored it, or nothing
-pub first_put : PutsAreRead → (e : RingEnd) (item : ℕ) (reply : PutReply) → HasPut e.ring.shape item [] e.list reply → (put : List ℕ) × HasStored e put × IsPrefix put (item ∷ [])
+same_end : (e : RingEnd) → IsSameEnd (emptied e) e
 unfolding emptied
-first_put read e item single.Stored h = (item ∷ [], one_stored read (emptied e) e refl [] (none_stored (emptied e) refl) item h, ([], refl))
-first_put read e item single.Full h = ([], one_full read (emptied e) e refl [] (none_stored (emptied e) refl) item h, (item ∷ [], refl))
-first_put read e item single.Closed h = ([], one_late read (emptied e) e refl [] (none_stored (emptied e) refl) item h, (item ∷ [], refl))
+same_end e = record { ring = refl; side = refl; known = refl }
 
-pub first_take : TakesAreRead → TakesOfOne → (e : RingEnd) (reply : TakeReply) → HasTaken e.ring.shape [] e.list reply → HasTook e (reply_items reply)
+-- what a first put of an item stored, and a first take took
+pub first_put : (e : RingEnd) (item : ℕ) (reply : PutReply) → HasPut e.ring.shape item [] e.list reply → HasStored e (item_stored reply item)
 unfolding emptied
-first_take read single e reply h = took_more read single (emptied e) e refl [] (none_took (emptied e) refl) reply h
+first_put e item reply h = put_stores (emptied e) e item reply (same_end e) h [] (none_stored (emptied e) refl)
+
+pub first_take : (e : RingEnd) (reply : TakeReply) → HasTaken e.ring.shape [] e.list reply → HasTook e (reply_items reply)
+unfolding emptied
+first_take e reply h = take_takes (emptied e) e reply (same_end e) h [] (none_took (emptied e) refl)
+
+pub stored_first : (item : ℕ) (reply : PutReply) → IsPrefix (item_stored reply item) (item ∷ [])
+stored_first item single.Stored = ([], refl)
+stored_first item single.Full = (item ∷ [], refl)
+stored_first item single.Closed = (item ∷ [], refl)

@@ -6,7 +6,6 @@ ghost use Rattle.ring_run.specs.Steppers.{IsSameEnd};
 ghost use Rattle.ring_run.specs.Ends.{HasPutAll, HasTakenAll, number_brought};
 ghost use Rattle.ring_run.specs.Stored.{HasStored, HasTook, number_stored};
 
-use ring_core::laws::{puts_are_read, takes_are_read};
 use ring_core::{BatchReply, TakeBatchReply};
 use ring_run::{PutEnd, TakeEnd};
 
@@ -44,8 +43,6 @@ pub fn put_batch<E: PutEnd>(putter: &mut E, items: &[u64]) -> usize
     ensures stored { (before : List ℕ) → HasStored (E.end putter.old) before →
         HasStored (E.end putter.new) (before ++ take result items.now) }
 {
-    // a law that the proof needs
-    puts_are_read();
     stored_by(putter.put_all(items))
 }
 
@@ -65,7 +62,5 @@ pub fn take_batch<E: TakeEnd>(taker: &mut E, into: &mut [u64]) -> usize
     ensures took { (before : List ℕ) → HasTook (E.end taker.old) before →
         HasTook (E.end taker.new) (before ++ take result into.new) }
 {
-    // a law that the proof needs
-    takes_are_read();
     taken_by(taker.take_all(into))
 }

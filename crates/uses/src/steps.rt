@@ -7,9 +7,6 @@ ghost use Rattle.ring_core.specs.ConsumerCalls.{reply_items};
 ghost use Rattle.uses.specs.Stepping.{IsFirstPut, IsFirstTake};
 
 use bits_core::{Always, Oracle, Shape};
-use ring_core::laws::{
-    programs_by_one_call, puts_are_read, ring_law, takes_are_read, whole_calls_count,
-};
 use ring_core::{PutReply, TakeReply};
 use ring_run::{FlickerRing, Putter, RunFault, Taker};
 use std::alloc::Allocator;
@@ -59,12 +56,6 @@ pub fn take_amid_put<A: Allocator + Copy, O: Oracle + Drop>(
     requires { item < 2 ^ width_of shape }
     ensures { IfOk result (λ r. IfSome r (λ reply. IsPrefix (reply_items reply) (item ∷ []))) }
 {
-    // the laws that the proof needs
-    ring_law();
-    whole_calls_count();
-    puts_are_read();
-    takes_are_read();
-    programs_by_one_call();
     let (ring, start) = FlickerRing::new(alloc, shape)?;
     let (mut putter, mut taker) = ring.ends(start, Always(false), oracle);
     let mut put = None;

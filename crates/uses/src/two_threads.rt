@@ -9,9 +9,6 @@ ghost use Rattle.ring_run.specs.Stored.{HasStored, HasTook};
 use crate::batches::put_batch;
 use bits_core::Shape;
 use ring_core::TakeReply;
-use ring_core::laws::{
-    programs_by_one_call, puts_are_read, ring_law, takes_are_read, whole_calls_count,
-};
 use ring_run::laws::counts_are_shown;
 use ring_run::{CounterRing, PutEnd, RunFault, TakeEnd};
 use std::alloc::Allocator;
@@ -28,8 +25,6 @@ pub fn put_each<E: PutEnd>(putter: &mut E, items: &[u64], calls: u64) -> usize
     ensures few { result ≤ length items.now }
     ensures stored { HasStored (E.end putter.new) (take result items.now) }
 {
-    // a law that the proof needs
-    puts_are_read();
     let shape = putter.shape();
     let mut stored = 0;
     'puts: for _ in 0..calls {
@@ -54,9 +49,6 @@ fn take_one<A: Allocator, E: TakeEnd>(
     ensures same { IsSameEnd (E.end taker.old) (E.end taker.new) }
     ensures took { IfOk result (λ _. HasTook (E.end taker.new) taken.new.items) }
 {
-    // the laws that the proof needs
-    takes_are_read();
-    programs_by_one_call();
     match taker.take() {
         TakeReply::Item(item) => {
             taken.push(item)?;
@@ -152,10 +144,7 @@ pub fn pass_through<R: Threads, A: Allocator + Copy>(
     ensures counts { IfOk result (λ r. (r.counts.0 ≡ r.stored % modulus_of shape) ×
         (r.counts.1 ≡ length r.taken.items % modulus_of shape)) }
 {
-    // the laws that the proof needs
-    ring_law();
-    whole_calls_count();
-    takes_are_read();
+    // a law that the proof needs
     counts_are_shown();
     let (ring, start) = CounterRing::new(alloc, shape)?;
     let (mut putter, mut taker) = ring.ends(start);

@@ -1,14 +1,16 @@
 -- The takes: how they end.
-use Rattle.std.proofs.Common.{◌≡◌, inl, inr, ℕ, zero, suc, ◌+◌, ◌-◌, ◌<◌, ◌≤◌, Bool, true, false, List, [], ◌∷◌, ◌++◌, length, take, drop, slice_index_or, refl, sym, ap, subst, ◌∙◌, arith, length-append, append_assoc}
+use Rattle.std.proofs.Common.{◌≡◌, inl, inr, ℕ, ◌+◌, ◌-◌, ◌<◌, ◌≤◌, Bool, true, false, List, [], ◌∷◌, ◌++◌, length, take, drop, slice_index_or, refl, sym, ap, subst, ◌∙◌, arith, length-append, append_assoc}
+use Rattle.std.proofs.lemmas.Bool.{cases_lt}
 use Rattle.std.proofs.lemmas.List.{length-take-le, take_more}
 use Rattle.std.proofs.Math.Seq.{drop-append_seam, get_or-append_seam}
 use Rattle.queue_calls.specs.Queue.{Capacity}
-use Rattle.queue_calls.specs.Calls.{Event, TakeItems, TakeEmpty, TakeShort, TakeNothing, TakeClosed, Happens, Producer, Idle, Putting, FoundShut, Closing, Consumer, Resting, Taking, FoundClosed, short_of, ProducerStep, ConsumerStep, point}
+use Rattle.queue_calls.specs.Calls.{Event, TakeEnd, Reply, passed, is_shut, CanReply, lacked_by, Producer, Idle, Putting, FoundShut, Closing, Consumer, Resting, Taking, FoundClosed, point}
 use Rattle.queue_calls.specs.declared.turns.PutTurn.{PutTurn}
 use Rattle.queue_calls.specs.declared.turns.PutTurn.TheVariants.{Free, Offers, Late, Closes}
 use Rattle.queue_calls.specs.declared.turns.TakeTurn.TheVariants.{Rests, Waits}
-use Rattle.queue_calls.specs.State.{MayHold, left_by, has_closed, FitsPut, offered_by, IsSoundPut, MayFindFewer, AreNext, CanEndTake, Keeps, call_of_put}
-use Rattle.queue_calls.specs.InTurn.{NoCall, ATake, sides, MovesSides}
+use Rattle.queue_calls.specs.State.{MayHold, left_by, has_closed, FitsPut, offered_by, IsSoundPut, MayFindFewer, AreNext, CanEndTake, Keeps}
+use Rattle.queue_calls.specs.Counting.{FoundFewer}
+use Rattle.queue_calls.proofs.Replies.{few, shut_within}
 use Rattle.queue_calls.proofs.Rooms.{holds_fewer, holds_none}
 use Rattle.queue_calls.proofs.Points.{happens}
 use Rattle.queue_calls.proofs.Effects.{described_at, shut_closed}
@@ -20,24 +22,6 @@ behind : (xs ys zs : List ℕ) → xs ++ ys ≡ xs ++ zs → ys ≡ zs
 behind [] ys zs e = e
 behind (x ∷ xs) ys zs e = behind xs ys zs (let f : xs ++ ys ≡ xs ++ zs = cc in f)
 
--- the end of a take that took these items, and found fewer than the number that belongs to how many more it asked for
-record Ends (e : Event) (took : List ℕ) (lack : ℕ → ℕ) : Type 0 where
-  ends : (c c' : Consumer) → ConsumerStep c (Happens e) c' → (left : ℕ) × (c ≡ Taking (lack left) took left) × (c' ≡ Resting)
-  idle : (p p' : Producer) → ProducerStep p (Happens e) p' → p' ≡ p
-  rests : (p : Producer) → ProducerStep p (Happens e) p
-
-items_ends : (items : List ℕ) (why : Bool) → Ends (TakeItems items why) items (short_of why (length items))
-items_ends items why = record { ends = λ c c' m. (m.0, m.2, m.3); idle = λ p p' m. m; rests = λ p. refl }
-
-empty_ends : Ends TakeEmpty [] (λ _. 1)
-empty_ends = record { ends = λ c c' m. m; idle = λ p p' m. m; rests = λ p. refl }
-
-short_ends : Ends TakeShort [] (λ n. n)
-short_ends = record { ends = λ c c' m. (m.0, m.2, m.3); idle = λ p p' m. m; rests = λ p. refl }
-
-nothing_ends : Ends TakeNothing [] (λ _. 0)
-nothing_ends = record { ends = λ c c' m. m; idle = λ p p' m. m; rests = λ p. refl }
-
 module _ (capacity : Capacity) (h : List Event) (put : PutTurn) (shut : Bool) where
   -- fewer items inside
   put_stays : (n m : ℕ) (p : PutTurn) → m ≤ n → IsSoundPut n p shut → IsSoundPut m p shut
@@ -46,72 +30,54 @@ module _ (capacity : Capacity) (h : List Event) (put : PutTurn) (shut : Bool) wh
   put_stays n m (Late offered) l f = f
   put_stays n m (Closes again) l f = f
 
-  module _ (e : Event) (wanted before : ℕ) (ended : Bool) (took inside : List ℕ) (rest : ℕ) (lack : ℕ → ℕ) (ends : Ends e took lack)
-      (k : Keeps capacity h (took ++ inside) put (Waits wanted before ended) shut) (sum : length took + rest ≡ wanted) where
+  module _ (reply : Reply (List ℕ)) (wanted before : ℕ) (ended : Bool) (inside : List ℕ) (k : Keeps capacity h (passed [] reply ++ inside) put (Waits wanted before ended) shut) where
     accepts :
-        MovesSides (sides (call_of_put put) (ATake wanted)) e (sides (call_of_put put) NoCall) → ConsumerStep (Taking (lack rest) took rest) (Happens e) Resting →
-        MayFindFewer before ended (lack rest) → MayHold capacity (length inside - offered_by put) → Accepts capacity h e inside put Rests shut
-    accepts turn back lacks fits =
-        accept capacity h e (took ++ inside) inside put put (Waits wanted before ended) Rests shut shut k.late k turn
+        is_shut reply ≡ false → CanReply reply (length (passed [] reply)) wanted →
+        MayFindFewer before ended (lacked_by reply (length (passed [] reply)) (wanted - length (passed [] reply))) → MayHold capacity (length inside - offered_by put) →
+        Accepts capacity h (TakeEnd reply) inside put Rests shut
+    accepts open' within lacks fits =
+        let took : List ℕ = passed [] reply in
+        let rest : ℕ = wanted - length took in
+        let sum : length took + rest ≡ wanted = omega (arith, few length [] reply wanted refl within) in
+        accept capacity h (TakeEnd reply) (took ++ inside) inside put put (Waits wanted before ended) Rests shut shut k.late k (wanted, refl, within, refl)
         (holds_fewer capacity (length inside - (offered_by put + 0)) (length inside - offered_by put) (omega arith) fits)
         (put_stays (length (took ++ inside)) (length inside) put (omega (arith, length-append took inside)) k.put_ok) tt
-        (λ s t d m.
-        let (left, ec, ec') = ends.ends s.consumer t.consumer m.consumer in
-        let d' = with_consumer capacity (took ++ inside) put (Waits wanted before ended) shut s d (Taking (lack left) took left) ec in
-        described_at capacity inside put Rests shut t s.queue s.producer Resting m.queue (ends.idle s.producer t.producer m.producer) ec'
-        (record { items = behind took inside (s.queue.items ++ left_by put s.producer) d'.items; room = d'.room; producer = d'.producer; consumer = tt }))
+        (λ s t d m. elim m.consumer.0 [
+          | inl (o, left, w, ec) ↦ (
+              let d' = with_consumer capacity (took ++ inside) put (Waits wanted before ended) shut s d (Taking (lacked_by reply (length took) left) took left) ec in
+              described_at capacity inside put Rests shut t s.queue s.producer Resting m.queue m.producer m.consumer.1
+              (record { items = behind took inside (s.queue.items ++ left_by put s.producer) d'.items; room = d'.room; producer = d'.producer; consumer = tt }))
+          | inr (o, ec) ↦ absurd cc
+        ])
         (λ t d told.
         let ec : t.consumer ≡ Resting = rests_resting t.consumer t.queue d.consumer in
         let d' = with_consumer capacity inside put Rests shut t d Resting ec in
-        let step : ConsumerStep (Taking (lack rest) took rest) (Happens e) t.consumer = subst (λ z. ConsumerStep (Taking (lack rest) took rest) (Happens e) z) (sym ec) back in
-        happens capacity h (point t.queue t.producer (Taking (lack rest) took rest)) t e
-        (k.sound (point t.queue t.producer (Taking (lack rest) took rest))
-        (record { items = ap (λ z. took ++ z) d'.items; room = d.room; producer = d.producer; consumer = (sum, lacks) }) told)
-        (record { queue = refl; producer = ends.rests t.producer; consumer = step }))
-
-  -- a take that took fewer than it asked for found fewer than one more, and one that took all has no reason to report
-  reason :
-      (before count wanted : ℕ) (ended why : Bool) → count ≤ wanted → (why ≡ true → count < wanted → MayFindFewer before ended (suc count)) →
-      MayFindFewer before ended (short_of why count (wanted - count))
-  reason before count wanted ended why l f = by_rest why (wanted - count) refl f
-    where
-      by_rest : (why : Bool) (n : ℕ) → n ≡ wanted - count → (why ≡ true → count < wanted → MayFindFewer before ended (suc count)) → MayFindFewer before ended (short_of why count n)
-      by_rest why zero e g = inl refl
-      by_rest false (suc n) e g = inl refl
-      by_rest true (suc n) e g = g refl (omega (arith, e))
+        let was : Consumer = Taking (lacked_by reply (length took) rest) took rest in
+        happens capacity h (point t.queue t.producer was) t (TakeEnd reply)
+        (k.sound (point t.queue t.producer was) (record { items = ap (λ z. took ++ z) d'.items; room = d.room; producer = d.producer; consumer = (sum, lacks) }) told)
+        (record { queue = refl; producer = refl; consumer = (inl (open', rest, subst (λ z. CanReply reply (length took) z) (sym sum) within, refl), ec) }))
 
   module _ (inside : List ℕ) (wanted before : ℕ) (ended : Bool) (k : Keeps capacity h inside put (Waits wanted before ended) shut) where
-    all_fit : CanEndTake capacity (length inside) (offered_by put) 0 → MayHold capacity (length inside - offered_by put)
-    all_fit fits = holds_fewer capacity (length inside - offered_by put) ((length inside - 0) - offered_by put) (omega arith) fits
-
-    pub take_items :
-        (items : List ℕ) (why : Bool) → 0 < length items → length items ≤ wanted → (why ≡ true → length items < wanted → before ≤ length items) → AreNext items inside →
-        CanEndTake capacity (length inside) (offered_by put) (length items) → Accepts capacity h (TakeItems items why) (drop (length items) inside) put Rests shut
-    take_items items why some few lacks (rest, next) fits =
-        let long : length inside ≡ length items + length rest = omega (arith, ap length next, length-append items rest) in
+    pub take_ends :
+        (reply : Reply (List ℕ)) → is_shut reply ≡ false → CanReply reply (length (passed [] reply)) wanted →
+        FoundFewer before ended (length (passed [] reply)) (lacked_by reply (length (passed [] reply)) (wanted - length (passed [] reply))) → AreNext (passed [] reply) inside →
+        CanEndTake capacity (length inside) (offered_by put) (length (passed [] reply)) → Accepts capacity h (TakeEnd reply) (drop (length (passed [] reply)) inside) put Rests shut
+    take_ends reply open' within found (rest, next) fits =
+        let took : List ℕ = passed [] reply in
+        let lacked : ℕ = lacked_by reply (length took) (wanted - length took) in
+        let long : length inside ≡ length took + length rest = omega (arith, ap length next, length-append took rest) in
         let K : List ℕ → Type 0 = λ z. Keeps capacity h z put (Waits wanted before ended) shut in
-        let A : List ℕ → Type 0 = λ z. Accepts capacity h (TakeItems items why) z put Rests shut in
-        let reasons : why ≡ true → length items < wanted → MayFindFewer before ended (suc (length items)) =
-        λ tells l. inr (omega (arith, lacks tells l), λ e. let (s, all) = k.take_ok.1 e in omega (arith, all, some, long)) in
-        subst A (sym (ap (λ z. drop (length items) z) next ∙ drop-append_seam items rest))
-        (accepts (TakeItems items why) wanted before ended items rest (wanted - length items) (short_of why (length items)) (items_ends items why) (subst K next k) (omega (arith, few))
-        (wanted, refl, some, few, refl) (wanted - length items, some, refl, refl) (reason before (length items) wanted ended why few reasons)
-        (holds_fewer capacity (length rest - offered_by put) ((length inside - length items) - offered_by put) (omega (arith, long)) fits))
-
-    pub take_empty : ended ≡ false → before ≡ 0 → CanEndTake capacity (length inside) (offered_by put) 0 → Accepts capacity h TakeEmpty inside put Rests shut
-    take_empty open_then none fits =
-        accepts TakeEmpty wanted before ended [] inside wanted (λ _. 1) empty_ends k (omega arith) (wanted, refl, refl) (wanted, refl, refl)
-        (inr (omega (arith, none), λ e. absurd (cc))) (all_fit fits)
-
-    pub take_short :
-        1 < wanted → before < wanted → (ended ≡ true → 0 < before) → CanEndTake capacity (length inside) (offered_by put) 0 → Accepts capacity h TakeShort inside put Rests shut
-    take_short several less some fits =
-        accepts TakeShort wanted before ended [] inside wanted (λ n. n) short_ends k (omega arith) (wanted, refl, several, refl) (wanted, several, refl, refl)
-        (inr (less, some)) (all_fit fits)
-
-    pub take_nothing : CanEndTake capacity (length inside) (offered_by put) 0 → Accepts capacity h TakeNothing inside put Rests shut
-    take_nothing fits =
-        accepts TakeNothing wanted before ended [] inside wanted (λ _. 0) nothing_ends k (omega arith) (wanted, refl, refl) (wanted, refl, refl) (inl refl) (all_fit fits)
+        let A : List ℕ → Type 0 = λ z. Accepts capacity h (TakeEnd reply) z put Rests shut in
+        let lacks : MayFindFewer before ended lacked = elim (cases_lt 0 lacked) [
+          | inl some ↦ inr (
+            (found some).0,
+            λ e. elim (cases_lt 0 (length took)) [ inl l ↦ (let (s, all) = k.take_ok.1 e in omega (arith, all, l, long)) | inr none ↦ (found some).1 (omega (arith, none)) e ],
+          )
+          | inr none ↦ inl (omega (arith, none))
+        ] in
+        subst A (sym (ap (λ z. drop (length took) z) next ∙ drop-append_seam took rest))
+        (accepts reply wanted before ended rest (subst K next k) open' within lacks
+        (holds_fewer capacity (length rest - offered_by put) ((length inside - length took) - offered_by put) (omega (arith, long)) fits))
 
 -- a close has begun, so the queue may be closed
 put_shut : (shut : Bool) (p : PutTurn) → has_closed p shut ≡ true → IsSoundPut 0 p shut → IsSoundPut 0 p true
@@ -175,20 +141,24 @@ none_of [] ys e = refl
 none_of (x ∷ xs) ys e = absurd (cc)
 
 module _ (capacity : Capacity) (h : List Event) (put : PutTurn) (wanted before : ℕ) (ended shut : Bool) where
-  pub take_closed : Keeps capacity h [] put (Waits wanted before ended) shut → has_closed put shut ≡ true → Accepts capacity h TakeClosed [] put Rests true
-  take_closed k closed =
-      accept capacity h TakeClosed [] [] put put (Waits wanted before ended) Rests shut true k.late k (wanted, refl, refl)
+  pub take_closed :
+      (reply : Reply (List ℕ)) → is_shut reply ≡ true → Keeps capacity h [] put (Waits wanted before ended) shut → has_closed put shut ≡ true → Accepts capacity h (TakeEnd reply) [] put Rests true
+  take_closed reply shuts k closed =
+      accept capacity h (TakeEnd reply) [] [] put put (Waits wanted before ended) Rests shut true k.late k
+      (wanted, refl, shut_within reply (length (passed [] reply)) wanted shuts, refl)
       (holds_fewer capacity (0 - (offered_by put + 0)) 0 (omega arith) (holds_none capacity)) (put_shut shut put closed k.put_ok) tt
-      (λ s t d m.
-      let (ec, ec') = m.consumer in
-      let d' = with_consumer capacity [] put (Waits wanted before ended) shut s d FoundClosed ec in
-      described_at capacity [] put Rests true t s.queue s.producer Resting m.queue m.producer ec'
-      (record { items = d'.items; room = d'.room; producer = told_shut capacity shut s.queue.closed put s.producer d'.consumer.1 d'.producer; consumer = tt }))
+      (λ s t d m. elim m.consumer.0 [
+        | inl (o, left, w, ec) ↦ absurd cc
+        | inr (o, ec) ↦ (
+            let d' = with_consumer capacity [] put (Waits wanted before ended) shut s d FoundClosed ec in
+            described_at capacity [] put Rests true t s.queue s.producer Resting m.queue m.producer m.consumer.1
+            (record { items = d'.items; room = d'.room; producer = told_shut capacity shut s.queue.closed put s.producer d'.consumer.1 d'.producer; consumer = tt }))
+      ])
       (λ t d told.
       let ec : t.consumer ≡ Resting = rests_resting t.consumer t.queue d.consumer in
       let d' = with_consumer capacity [] put Rests true t d Resting ec in
       let is_closed : t.queue.closed ≡ true = shut_closed capacity [] Rests true 0 put t.producer t.queue.closed (put_shut shut put closed k.put_ok) d.producer refl in
-      happens capacity h (point t.queue t.producer FoundClosed) t TakeClosed
+      happens capacity h (point t.queue t.producer FoundClosed) t (TakeEnd reply)
       (k.sound (point t.queue t.producer FoundClosed)
       (record {
         items = d'.items;
@@ -196,7 +166,7 @@ module _ (capacity : Capacity) (h : List Event) (put : PutTurn) (wanted before :
         producer = untold_shut capacity shut t.queue.closed put t.producer closed d.producer is_closed;
         consumer = (none_of t.queue.items (left_by put t.producer) d'.items, is_closed);
       }) told)
-      (record { queue = refl; producer = refl; consumer = (refl, ec) }))
+      (record { queue = refl; producer = refl; consumer = (inr (shuts, refl), ec) }))
 
 -- one more item is next
 pub next_one :

@@ -14,7 +14,8 @@ use Rattle.bits_core.specs.declared.shapes.Shape.{Shape}
 use Rattle.bits_core.specs.Shape.{capacity_of, width_of}
 use Rattle.bits_core.specs.Bits.{is_by}
 use Rattle.bits_core.specs.Intervals.{IsAccess, Overlap, first_place}
-use Rattle.bits_core.specs.Made.{Made, Read, Write, access_of, subhistory, place_of, IsPlaceOf, IsMadeAt}
+use Rattle.bits_core.specs.Made.{Made, Read, Write, access_of, subhistory, place_of, IsPlaceOf}
+use Rattle.bits_core.proofs.Statements.{IsMadeAt}
 use Rattle.register_core.specs.Row.{RowWrite, row_bit, writes_in}
 use Rattle.register_core.specs.Word.{digit, digit_reads, digit_writes, word_read, word_write}
 use Rattle.register_core.specs.ScanState.{zero_reads, scan_phrase, row_read_by}
@@ -51,8 +52,7 @@ bit_of (begins.Read b) = b
 bit_of (begins.Write b v) = b
 
 cell_is : (x : Made) → cell_of x ≡ cell_number (bit_of (access_of x))
-cell_is (Read b v) = refl
-cell_is (Write b v) = refl
+cell_is x = grind arith
 
 -- access number m is of a digit of cell j
 abbrev AtCell : List Made → ℕ → ℕ → Type 0
@@ -67,10 +67,7 @@ at_parts :
     ((m < length xs) × AtCell xs m j) ⊎ ((n : ℕ) × (m ≡ length xs + n) × AtCell ys n j)
 at_parts [] ys m j at = inr (m, omega arith, at)
 at_parts (x ∷ xs) ys zero j (y, e, f) = inl (omega arith, (y, e, f))
-at_parts (x ∷ xs) ys (suc m) j (y, e, f) = elim (at_parts xs ys m j (y, e, f)) [
-  | inl (l, at) ↦ inl (omega (arith, l), at)
-  | inr (n, g, at) ↦ inr (n, omega (arith, g), at)
-]
+at_parts (x ∷ xs) ys (suc m) j (y, e, f) = grind (arith, at_parts xs ys m j (y, e, f))
 
 none-append : (xs ys : List Made) → NoCells xs → NoCells ys → NoCells (xs ++ ys)
 none-append xs ys a b m j at = elim (at_parts xs ys m j at) [ inl (l, in_xs) ↦ a m j in_xs | inr (n, e, in_ys) ↦ b n j in_ys ]
@@ -83,8 +80,7 @@ none-one x none zero j (y, e, f) = absurd (let same : x ≡ y = cc in let g : No
 none-one x none (suc m) j (y, e, f) = absurd (cc)
 
 no_cell-row : (s : Side) (i : ℕ) → cell_number (row_bit s i) ≡ None
-no_cell-row P i = refl
-no_cell-row C i = refl
+no_cell-row s i = grind arith
 
 none-zeros : (s : Side) (n : ℕ) → NoCells (zero_reads (row_bit s) n)
 none-zeros s zero = none-nil
@@ -101,18 +97,11 @@ none-row s (w ∷ writes) =
 -- the digits of a word are of its cell
 in_cell_write : (k : ℕ) (writes : List RowWrite) (m j : ℕ) → AtCell (writes_in (Cell k) writes) m j → k ≡ j
 in_cell_write k [] m j (y, e, f) = absurd (cc)
-in_cell_write k (w ∷ writes) zero j (y, e, f) =
-    let same : Write (Cell k w.bit) w.value ≡ y = cc in
-    let both : Some k ≡ Some j = ap cell_of same ∙ f in
-    cc
+in_cell_write k (w ∷ writes) zero j (y, e, f) = grind arith
 in_cell_write k (w ∷ writes) (suc m) j (y, e, f) = in_cell_write k writes m j (y, e, f)
 
 in_one_read : (k i : ℕ) (v : Bool) (m j : ℕ) → AtCell (Read (Cell k i) v ∷ []) m j → k ≡ j
-in_one_read k i v zero j (y, e, f) =
-    let same : Read (Cell k i) v ≡ y = cc in
-    let both : Some k ≡ Some j = ap cell_of same ∙ f in
-    cc
-in_one_read k i v (suc m) j (y, e, f) = absurd (cc)
+in_one_read k i v m j h1 = grind arith
 
 in_cell_read : (k item n m j : ℕ) → AtCell (digit_reads k item n) m j → k ≡ j
 in_cell_read k item zero m j (y, e, f) = absurd (cc)
@@ -122,9 +111,7 @@ in_cell_read k item (suc n) m j at = elim (at_parts (digit_reads k item n) (Read
 ]
 
 length-word : (shape : Shape) (n item : ℕ) → length (word_write (width_of shape) (n % capacity_of shape) item) ≡ width_of shape
-length-word shape n item =
-    let one : 1 * width_of shape ≡ width_of shape = omega arith in
-    omega (arith, one, length-words shape n (item ∷ []), length-append (word_write (width_of shape) (n % capacity_of shape) item) [])
+length-word shape n item = grind (arith, length-words shape n (item ∷ []), length-append (word_write (width_of shape) (n % capacity_of shape) item) [])
 
 -- ---- words
 
@@ -222,9 +209,7 @@ item_in :
     (r : InCall phrases counted front items shape first_count xs m j) →
     HasItem (IsCallAt (phrases first_count) (counted 0) xs) front items (width_of shape) (counted 0 r.before + r.index) r.item
     (events_in (phrases first_count r.before) + events_in (front r.call) + 2 * (r.index * width_of shape)) (events_in (phrases first_count (r.before ++ r.call ∷ [])))
-item_in {phrases} {counted} {front} {items} {shape} {xs} r =
-    has_item (IsCallAt (phrases first_count) (counted 0) xs) front items (width_of shape) r.call _ _ _ r.index r.item
-    (record { before = r.before; after = r.after; among = r.among; number = refl; starts = refl; stops = refl }) r.has
+item_in {phrases} {counted} {front} {items} {shape} {xs} r = search (arith, has_item)
 
 -- ---- the word of a put
 
@@ -247,8 +232,7 @@ in_put shape c (Stored seen items) m j at =
     ]
 
 none-close : (closes : Bool) → NoCells (close_phrase closes)
-none-close true = none-one (Write X true) refl
-none-close false = none-nil
+none-close closes = grind (arith, none-one, none-nil)
 
 -- ---- the word of a take
 
@@ -295,8 +279,7 @@ in_order : (s : Side) (h : List Event) (i e a b : ℕ) → i ≤ e → IsPlaceOf
 in_order s h i e a b l p q = elim (at_most_or_above a b) [ inl m ↦ m | inr m ↦ absurd (omega (arith, clock_rises s h (suc b) a m, p.before, q.past, l)) ]
 
 if_within : (b : Bool) (n m : ℕ) → n ≤ m → (if b then 0 else suc n) ≤ suc m
-if_within true n m l = omega arith
-if_within false n m l = omega (arith, l)
+if_within b n m l = grind arith
 
 first_within : (s : Side) (h : List Event) → first_place s h ≤ length h
 first_within s [] = omega arith
@@ -309,9 +292,7 @@ drop_within (x ∷ xs) (suc i) l = omega (arith, drop_within xs i (omega (arith,
 
 -- an access ends no later than the history
 ends_within : (h : List Event) (s : Side) (a : Access) (start stop : ℕ) → IsAccess h s a start stop → stop ≤ length h
-ends_within h s a start stop r =
-    let some : start < length h = slice_get_within h start r.event r.at_start in
-    omega (arith, r.ends, first_within s (drop (start + 1) h), drop_within h (start + 1) (omega (arith, some)))
+ends_within h s a start stop r = grind (arith, slice_get_within, first_within, drop_within)
 
 -- the word that an access is one of has an interval, which the access lies in
 around :
@@ -348,7 +329,6 @@ digits_are_quiet shape h puts takes run words j d d' a a' start stop start' stop
       | inl (l, at) ↦ elim (at_parts (take_phrases shape first_count takes.takes) (end_phrase takes.end) m' j (y, y_at, y_cell)) [
         | inr (n', e', at') ↦ none-end takes.end n' j at'
         | inl (l', at') ↦ (
-            let w : ℕ = width_of shape in
             let r = in_calls (puts_go_by_calls shape) stored_in put_scan put_items shape (λ n. refl) (λ c x xs. refl) (in_put shape) first_count puts.puts m j at in
             let q = in_calls (takes_go_by_calls shape) taken_in accesses_before_word taken_of shape (λ n. refl) (λ c x xs. refl) (in_take shape) first_count takes.takes m' j at' in
             let word : ℕ = events_in (put_phrases shape first_count r.before) + events_in (put_scan r.call) + 2 * (r.index * width_of shape) in

@@ -1,24 +1,24 @@
 -- Which put an access to a cell belongs to, and where the accesses of a put's word are.
-use Rattle.std.proofs.Common.{◌≡◌, inl, inr, ℕ, zero, suc, ◌+◌, ◌-◌, ◌*◌, ◌%◌, ◌<◌, ◌≤◌, Bool, true, cond, nat_eq, Some, List, [], ◌∷◌, ◌++◌, length, refl, sym, ap, subst, ◌∙◌, arith, append_assoc, length-append}
+use Rattle.std.proofs.Common.{◌≡◌, inl, inr, ℕ, zero, suc, ◌+◌, ◌*◌, ◌%◌, ◌<◌, ◌≤◌, Bool, true, cond, nat_eq, Some, List, [], ◌∷◌, ◌++◌, length, refl, sym, ap, subst, ◌∙◌, arith, append_assoc, length-append}
 use Rattle.std.specs.Prelude.{slice_get}
 use Rattle.std.proofs.lemmas.List.{map-append}
 use Rattle.std.proofs.Math.Nat.{add-mul, suc-mul}
 use Rattle.std.proofs.lemmas.Bool.{eq-eqb}
 use Rattle.bits_core.specs.declared.events.Side.{Side}
 use Rattle.bits_core.specs.declared.events.Side.TheVariants.{P, C}
-use Rattle.bits_core.specs.declared.events.Bit.TheVariants.{X, Cell}
+use Rattle.bits_core.specs.declared.events.Bit.TheVariants.{Cell}
 use Rattle.bits_core.specs.declared.events.Access.TheVariants as begins
 use Rattle.bits_core.specs.declared.shapes.Shape.{Shape}
 use Rattle.bits_core.specs.Shape.{capacity_of, width_of}
-use Rattle.bits_core.specs.Made.{Made, Read, Write, access_of}
+use Rattle.bits_core.specs.Made.{Made, Write, access_of}
 use Rattle.bits_core.proofs.Places.{slice_get-append, slice_get-behind}
-use Rattle.register_core.specs.Row.{RowWrite, writes_in}
+use Rattle.register_core.specs.Row.{writes_in}
 use Rattle.register_core.specs.Word.{digit, digit_writes, word_write, word_writes, word_read}
 use Rattle.register_core.specs.ScanState.{scan_phrase, row_read_by}
 use Rattle.register_core.proofs.WordMachines.{writer-feeds as digits-snoc}
 use Rattle.ring_core.specs.Counts.{Count}
 use Rattle.ring_core.specs.Puts.{words_phrase}
-use Rattle.ring_core.proofs.OverSpans.Spans.{Outcome, Passes, Stops, Asks, Span, counts, items_of, whole, IsSpanAt}
+use Rattle.ring_core.proofs.OverSpans.Spans.{Outcome, Span, counts, items_of, whole, IsSpanAt}
 use Rattle.ring_core.proofs.OverSpans.LookSpans.{Look, words_read, word_part, count_part, after_look, look_accesses, span_of, spans}
 use Rattle.ring_core.proofs.Readings.Phrases.{length-digit_writes, digits_split}
 use Rattle.ring_core.proofs.Machines.Lengths.{length-word_write, length-word_read}
@@ -32,42 +32,31 @@ use Rattle.ring_core.proofs.Readings.Parts.{never as none_in_nil}
 -- a span ends before each span with a larger number begins
 pub stands_order : (xs : List Span) (s n s' n' : ℕ) (x x' : Span) → IsSpanAt xs s n x → IsSpanAt xs s' n' x' → n < n' → s + whole x ≤ s'
 stands_order [] s n s' n' x x' st st' l = elim st [ ]
-stands_order (y ∷ ys) s n s' n' x x' (inl a) (inl b) l = absurd (omega (arith, a.1, b.1, l))
-stands_order (y ∷ ys) s n s' n' x x' (inl a) (inr b) l = omega (arith, a.0, b.2, ap whole a.2)
+stands_order (y ∷ ys) s n s' n' x x' (inl a) v8 l = grind arith
 stands_order (y ∷ ys) s n s' n' x x' (inr a) (inl b) l = absurd (omega (arith, b.1, l))
-stands_order (y ∷ ys) s n s' n' x x' (inr a) (inr b) l =
-    let r = stands_order ys a.0 a.1 b.0 b.1 x x' a.4 b.4 (omega (arith, a.3, b.3, l)) in
-    omega (arith, r, a.2, b.2)
+stands_order (y ∷ ys) s n s' n' x x' (inr a) (inr b) l = grind (arith, stands_order ys a.0 a.1 b.0 b.1 x x' a.4 b.4 (omega (arith, a.3, b.3, l)))
 
 -- after a span its items are counted
 pub stands_numbers : (xs : List Span) (s n s' n' : ℕ) (x x' : Span) → IsSpanAt xs s n x → IsSpanAt xs s' n' x' → n < n' → n + counts x.outcome ≤ n'
 stands_numbers [] s n s' n' x x' st st' l = elim st [ ]
-stands_numbers (y ∷ ys) s n s' n' x x' (inl a) (inl b) l = absurd (omega (arith, a.1, b.1, l))
-stands_numbers (y ∷ ys) s n s' n' x x' (inl a) (inr b) l = omega (arith, a.1, b.3, ap (λ (z : Span). counts z.outcome) a.2)
+stands_numbers (y ∷ ys) s n s' n' x x' (inl a) v8 l = grind arith
 stands_numbers (y ∷ ys) s n s' n' x x' (inr a) (inl b) l = absurd (omega (arith, b.1, l))
-stands_numbers (y ∷ ys) s n s' n' x x' (inr a) (inr b) l =
-    let r = stands_numbers ys a.0 a.1 b.0 b.1 x x' a.4 b.4 (omega (arith, a.3, b.3, l)) in
-    omega (arith, r, a.3, b.3)
+stands_numbers (y ∷ ys) s n s' n' x x' (inr a) (inr b) l = grind (arith, stands_numbers ys a.0 a.1 b.0 b.1 x x' a.4 b.4 (omega (arith, a.3, b.3, l)))
 
 -- two spans that count items after the same number begin at one place
 pub stands_same :
     (xs : List Span) (s n s' : ℕ) (x x' : Span) → IsSpanAt xs s n x → 1 ≤ counts x.outcome → IsSpanAt xs s' n x' → 1 ≤ counts x'.outcome → (s ≡ s') × (x ≡ x')
 stands_same [] s n s' x x' st o st' o' = elim st [ ]
-stands_same (y ∷ ys) s n s' x x' (inl a) o (inl b) o' = (omega (arith, a.0, b.0), a.2 ∙ sym b.2)
-stands_same (y ∷ ys) s n s' x x' (inl a) o (inr b) o' = absurd (omega (arith, o, a.1, b.3, ap (λ (z : Span). counts z.outcome) a.2))
+stands_same (y ∷ ys) s n s' x x' (inl a) o v8 o' = grind arith
 stands_same (y ∷ ys) s n s' x x' (inr a) o (inl b) o' = absurd (omega (arith, o', b.1, a.3, ap (λ (z : Span). counts z.outcome) b.2))
 stands_same (y ∷ ys) s n s' x x' (inr a) o (inr b) o' =
     let z : b.1 ≡ a.1 = omega (arith, a.3, b.3) in
     let st' : IsSpanAt ys b.0 a.1 x' = subst (λ (k : ℕ). IsSpanAt ys b.0 k x') z b.4 in
-    let (starts, spans') = stands_same ys a.0 a.1 b.0 x x' a.4 o st' o' in
-    (omega (arith, a.2, b.2, starts), spans')
+    grind (arith, stands_same ys a.0 a.1 b.0 x x' a.4 o st' o')
 
 -- one multiple is at most the other
 pub multiple_up : (a b w : ℕ) → a ≤ b → a * w ≤ b * w
-multiple_up a b w l =
-    let c : ℕ = b - a in
-    let sum : a + c ≡ b = omega (arith, l) in
-    omega (arith, ap (λ k. k * w) sum, add-mul a c w)
+multiple_up a b w l = grind (arith, add-mul)
 
 -- words come in the order of their items
 pub words_order :
@@ -118,16 +107,8 @@ digit_of c item (suc w) before x after j d v e f =
     let us : List Made = writes_in (Cell c) (digit_writes item w) in
     let last : Made = Write (Cell c w) (digit w item) in
     elim (where_in us (last ∷ []) before x after (sym (digits-snoc c item w) ∙ e)) [
-      | inl (rest, us_is, after_is) ↦ (
-          let (cells, places, below) = digit_of c item w before x rest j d v us_is f in
-          (cells, places, omega (arith, below)))
-      | inr (more, before_is, vs_is) ↦ (
-          let (none, same) = only_one last more x after vs_is in
-          let accesses : begins.Write (Cell c w) (digit w item) ≡ begins.Write (Cell j d) v = ap access_of same ∙ f in
-          let cells : c ≡ j = cc in
-          let digits : w ≡ d = cc in
-          let places : length before ≡ w = omega (arith, ap length before_is, length-append us more, ap length none, length-digits c item w) in
-          (cells, omega (arith, places, digits), omega (arith, digits)))
+      | inl (rest, us_is, after_is) ↦ grind (arith, digit_of c item w before x rest j d v us_is f)
+      | inr (more, before_is, vs_is) ↦ grind (arith, only_one, length-append, length-digits)
     ]
 
 -- the word of these items, and its digit, that an access to a cell is of
@@ -176,18 +157,13 @@ word_of shape n (item ∷ items) before x after j d v e f =
 part_time :
     (shape : Shape) (n : ℕ) (o : Outcome) (before : List Made) (x : Made) (after : List Made) (j d : ℕ) (v : Bool) →
     word_part P shape n o ≡ before ++ x ∷ after → access_of x ≡ begins.Write (Cell j d) v → WordOf shape n j d (length before) (items_of o)
-part_time shape n (Passes items) before x after j d v e f = word_of shape n items before x after j d v e f
-part_time shape n Stops before x after j d v e f = absurd (none_in_nil before x after e)
-part_time shape n (Asks answer) before x after j d v e f =
-    let (none, same) = only_one (Read X answer) before x after e in
-    absurd (let accesses : access_of (Read X answer) ≡ begins.Write (Cell j d) v = ap access_of same ∙ f in cc)
+part_time shape n o before x after j d v e f = grind (arith, word_of, none_in_nil, only_one)
 
 -- no access to a cell is among accesses that write to none
 none_behind :
     (behind before : List Made) (x : Made) (after : List Made) (j d : ℕ) (v : Bool) → to_cell j behind ≡ [] →
     behind ≡ before ++ x ∷ after → access_of x ≡ begins.Write (Cell j d) v → ⊥
-none_behind behind before x after j d v none e f =
-    absurd (omega (arith, to_cell-there j before x after d v f, ap (λ l. length (to_cell j l)) e, ap length none))
+none_behind behind before x after j d v none e f = grind (arith, to_cell-there j before x after d v f)
 
 -- each access to a cell is of the word of a put
 pub cell_time :
@@ -319,9 +295,7 @@ word_part_in :
     (shape : Shape) (n : ℕ) (o : Outcome) (j index item : ℕ) → slice_get (items_of o) index ≡ Some item → (n + index) % capacity_of shape ≡ j →
     (r : WordIn shape n (items_of o) j index item) × (word_part P shape n o ≡ words_phrase shape n (items_of o)) ×
     (items_here shape j n o ≡ stored_to shape j n (items_of o))
-word_part_in shape n (Passes items) j index item e f = (word_in shape n items j index item e f, refl, refl)
-word_part_in shape n Stops j index item e f = absurd (cc)
-word_part_in shape n (Asks answer) j index item e f = absurd (cc)
+word_part_in shape n o j index item e f = grind (arith, word_in)
 
 -- four lists, one after the other
 past_three : (a b c r t : List Made) → a ++ (b ++ (c ++ (r ++ t))) ≡ (a ++ (b ++ (c ++ r))) ++ t
@@ -335,7 +309,6 @@ pub word_time :
 word_time shape c [] behind j start number index put item st e f = elim st [ ]
 word_time shape c (l ∷ looks) behind j start number index put item (inl st) e f =
     let us : List Made = scan_phrase (row_read_by P) l.seen in
-    let ws : List Made = word_part P shape c.number l.outcome in
     let cs : List Made = count_part P shape c l.outcome in
     let next : Count = after_look shape c l.outcome in
     let rest : List Made = look_accesses P shape next looks behind in
@@ -348,8 +321,7 @@ word_time shape c (l ∷ looks) behind j start number index put item (inl st) e 
       front = us ++ r.front;
       back = r.back ++ (cs ++ rest);
       nth = r.nth;
-      is = ap (λ z. us ++ (z ++ (cs ++ rest))) (words ∙ r.is) ∙ ap (λ z. us ++ z) (append_assoc r.front (word ++ r.back) (cs ++ rest)) ∙
-          sym (append_assoc us r.front ((word ++ r.back) ++ (cs ++ rest))) ∙ ap (λ z. (us ++ r.front) ++ z) (append_assoc word r.back (cs ++ rest));
+      is = grind (arith, append_assoc);
       place_is = omega (arith, st.0, ap (λ (x : Span). x.scan) st.2, length-append us r.front, r.place_is);
       written = omega (
         arith,
@@ -405,9 +377,7 @@ digit_time width all front back j item place count d is place_is written l =
     let done : List Made = writes_in (Cell j) (digit_writes item d) in
     let x : Made = Write (Cell j d) (digit d item) in
     let ws : List Made = writes_in (Cell j) more in
-    let word : word_write width j item ≡ done ++ x ∷ ws =
-    ap (writes_in (Cell j)) digits ∙
-    map-append (λ (r : RowWrite). Write (Cell j r.bit) r.value) (digit_writes item d) (record { bit = d; value = digit d item } ∷ more) in
+    let word : word_write width j item ≡ done ++ x ∷ ws = grind (arith, map-append) in
     record {
       before = front ++ done;
       after = ws ++ back;
@@ -430,10 +400,7 @@ pub word_events :
     (s : Side) (shape : Shape) (c : Count) (looks : List Look) (start number : ℕ) (x : Span) →
     IsSpanAt (spans s shape c looks) start number x → 1 ≤ counts x.outcome → x.word ≡ 2 * (counts x.outcome * width_of shape)
 word_events s shape c [] start number x st e = elim st [ ]
-word_events s shape c (l ∷ looks) start number x (inl st) e =
-    let some : 1 ≤ counts l.outcome = omega (arith, e, ap (λ (y : Span). counts y.outcome) st.2) in
-    let size : counts x.outcome * width_of shape ≡ counts l.outcome * width_of shape = ap (λ (y : Span). counts y.outcome * width_of shape) st.2 in
-    omega (arith, ap (λ (y : Span). y.word) st.2, length-part s shape c.number l.outcome some, size)
+word_events s shape c (l ∷ looks) start number x (inl st) e = grind (arith, length-part)
 word_events s shape c (l ∷ looks) start number x (inr st) e = word_events s shape (after_look shape c l.outcome) looks st.0 st.1 x st.4 e
 
 -- the accesses before the word of a take
@@ -445,10 +412,7 @@ pub record ReadTime (shape : Shape) (all : List Made) (j item place : ℕ) : Typ
 
 -- a multiple of a doubled number
 pub doubled : (i w : ℕ) → i * (2 * w) ≡ 2 * (i * w)
-doubled zero w =
-    let none : 0 * (2 * w) ≡ 0 = omega arith in
-    let none' : 0 * w ≡ 0 = omega arith in
-    omega (arith, none, none')
+doubled zero w = grind arith
 doubled (suc i) w = omega (arith, suc-mul i (2 * w), suc-mul i w, doubled i w)
 
 -- the word read of an item among those of a look
@@ -462,33 +426,23 @@ read_in : (shape : Shape) (n : ℕ) (items : List ℕ) (i item : ℕ) → slice_
 read_in shape n [] i item e = absurd (cc)
 read_in shape n (x ∷ items) zero item e =
     let same : x ≡ item = cc in
-    let here : n ≡ n + 0 = omega arith in
     let none : 0 * width_of shape ≡ 0 = omega arith in
     record {
       front = [];
       back = words_read shape (suc n) items;
-      is = ap (λ v. word_read (width_of shape) (n % capacity_of shape) v ++ words_read shape (suc n) items) same ∙
-          ap (λ k. word_read (width_of shape) (k % capacity_of shape) item ++ words_read shape (suc n) items) here;
+      is = grind arith;
       long = omega (arith, none);
     }
 read_in shape n (x ∷ items) (suc i) item e =
     let r = read_in shape (suc n) items i item e in
     let first : List Made = word_read (width_of shape) (n % capacity_of shape) x in
-    let next : suc n + i ≡ n + suc i = omega arith in
     let size : suc i * width_of shape ≡ i * width_of shape + width_of shape = suc-mul i (width_of shape) in
     record {
       front = first ++ r.front;
       back = r.back;
-      is = ap (λ z. first ++ z) r.is ∙ sym (append_assoc first r.front (word_read (width_of shape) ((suc n + i) % capacity_of shape) item ++ r.back)) ∙
-          ap (λ k. (first ++ r.front) ++ (word_read (width_of shape) (k % capacity_of shape) item ++ r.back)) next;
+      is = grind (arith, append_assoc);
       long = omega (arith, length-append first r.front, length-word_read (width_of shape) (n % capacity_of shape) x, r.long, size);
     }
-
--- the word accesses of a look of the consumer are the word reads of its items
-passes_words : (shape : Shape) (n : ℕ) (o : Outcome) (i item : ℕ) → slice_get (items_of o) i ≡ Some item → word_part C shape n o ≡ words_read shape n (items_of o)
-passes_words shape n (Passes items) i item e = refl
-passes_words shape n Stops i item e = absurd (cc)
-passes_words shape n (Asks answer) i item e = absurd (cc)
 
 -- each take that takes items has the word read of item number i there
 pub read_time :
@@ -504,29 +458,14 @@ read_time shape c (l ∷ looks) behind start number x i item (inl st) e =
     let same : c.number + i ≡ c.number + number + i = omega (arith, st.1) in
     let r = read_in shape c.number (items_of l.outcome) i item at in
     let word : List Made = word_read (width_of shape) ((c.number + number + i) % capacity_of shape) item in
-    let words : word_part C shape c.number l.outcome ≡ r.front ++ (word ++ r.back) =
-    passes_words shape c.number l.outcome i item at ∙ r.is ∙ ap (λ k. r.front ++ (word_read (width_of shape) (k % capacity_of shape) item ++ r.back)) same in
     record {
       front = us ++ r.front;
       back = r.back ++ (cs ++ rest);
-      is = ap (λ z. us ++ (z ++ (cs ++ rest))) words ∙ ap (λ z. us ++ z) (append_assoc r.front (word ++ r.back) (cs ++ rest)) ∙
-          ap (λ z. us ++ (r.front ++ z)) (append_assoc word r.back (cs ++ rest)) ∙ sym (append_assoc us r.front (word ++ (r.back ++ (cs ++ rest))));
+      is = grind (arith, append_assoc);
       place_is = omega (arith, st.0, ap (λ (y : Span). y.scan) st.2, r.long, length-append us r.front);
     }
 read_time shape c (l ∷ looks) behind start number x i item (inr st) e =
-    let us : List Made = scan_phrase (row_read_by C) l.seen in
-    let ws : List Made = word_part C shape c.number l.outcome in
     let cs : List Made = count_part C shape c l.outcome in
     let next : Count = after_look shape c l.outcome in
     let numbers : next.number + st.1 + i ≡ c.number + number + i = omega (arith, st.3, after_counts c.number l.outcome) in
-    let rest : List Made = look_accesses C shape next looks behind in
-    let place : ℕ = st.0 + x.scan + 2 * (i * width_of shape) in
-    let r : ReadTime shape rest ((c.number + number + i) % capacity_of shape) item place =
-    subst (λ k. ReadTime shape rest (k % capacity_of shape) item place) numbers (read_time shape next looks behind st.0 st.1 x i item st.4 e) in
-    let word : List Made = word_read (width_of shape) ((c.number + number + i) % capacity_of shape) item in
-    record {
-      front = us ++ (ws ++ (cs ++ r.front));
-      back = r.back;
-      is = ap (λ z. us ++ (ws ++ (cs ++ z))) r.is ∙ past_three us ws cs r.front (word ++ r.back);
-      place_is = omega (arith, r.place_is, st.2, length-append us (ws ++ (cs ++ r.front)), length-append ws (cs ++ r.front), length-append cs r.front);
-    }
+    grind (arith, past_three, length-append, read_time shape next looks behind st.0 st.1 x i item st.4 e)

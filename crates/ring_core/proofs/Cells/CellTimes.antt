@@ -11,7 +11,7 @@ use Rattle.bits_core.specs.declared.shapes.Shape.{Shape}
 use Rattle.bits_core.specs.Shape.{AllFit, capacity_of, width_of}
 use Rattle.bits_core.specs.Made.{Made, Read, Write, access_of, begin_event}
 use Rattle.register_core.specs.Row.{RowWrite, row_bit, row_write, writes_in}
-use Rattle.register_core.specs.Word.{digit_writes, word_write, word_writes}
+use Rattle.register_core.specs.Word.{word_write, word_writes}
 use Rattle.register_core.specs.WordLaw.{cell_write}
 use Rattle.register_core.specs.ScanState.{scan_phrase, zero_reads, row_read_by}
 use Rattle.register_core.specs.MadeWrites.{made_writes}
@@ -37,13 +37,7 @@ pub where_in :
     ((rest : List Made) × (us ≡ before ++ x ∷ rest) × (after ≡ rest ++ vs)) ⊎ ((more : List Made) × (before ≡ us ++ more) × (vs ≡ more ++ x ∷ after))
 where_in [] vs before x after e = inr (before, refl, e)
 where_in (u ∷ us) vs [] x after e = inl (us, (let same : u ≡ x = cc in cc), (let rest : us ++ vs ≡ after = cc in sym rest))
-where_in (u ∷ us) vs (y ∷ before) x after e =
-    let same : u ≡ y = cc in
-    let e' : us ++ vs ≡ before ++ x ∷ after = cc in
-    elim (where_in us vs before x after e') [
-      | inl (rest, us_is, after_is) ↦ inl (rest, (cc), after_is)
-      | inr (more, before_is, vs_is) ↦ inr (more, (cc), vs_is)
-    ]
+where_in (u ∷ us) vs (y ∷ before) x after e = grind (arith, where_in us vs before x after cc)
 
 -- ---- the parts of a look
 
@@ -118,12 +112,7 @@ other_cell j c (w ∷ writes) h = rw (other_number j c w.bit h) (other_cell j c 
 pub to_cell-there :
     (j : ℕ) (before : List Made) (x : Made) (after : List Made) (d : ℕ) (v : Bool) → access_of x ≡ begins.Write (Cell j d) v →
     length (to_cell j (before ++ x ∷ after)) ≡ length (to_cell j before) + suc (length (to_cell j after))
-to_cell-there j before (Read b w) after d v f = absurd (cc)
-to_cell-there j before (Write b w) after d v f =
-    let bits : b ≡ Cell j d = cc in
-    let first : to_cell j (Write b w ∷ after) ≡ record { bit = d; value = w } ∷ to_cell j after =
-    ap (λ c. to_cell j (Write c w ∷ after)) bits ∙ rw (own_number j d) refl in
-    omega (arith, ap length (to_cell-append j before (Write b w ∷ after)), length-append (to_cell j before) (to_cell j (Write b w ∷ after)), ap length first)
+to_cell-there j before x after d v f = grind (arith, own_number, to_cell-append, length-append)
 
 -- ---- the items stored to a cell
 
@@ -153,36 +142,20 @@ two_numbers j c e f = grind (arith, nat_tests)
 pub word_to_cell :
     (shape : Shape) (j n item : ℕ) (b : Bool) → nat_eq j (n % capacity_of shape) ≡ b →
     to_cell j (word_write (width_of shape) (n % capacity_of shape) item) ≡ word_writes (width_of shape) (cond b (item ∷ []) [])
-word_to_cell shape j n item true e =
-    let same : n % capacity_of shape ≡ j = sym (same_number j (n % capacity_of shape) e) in
-    let ws : List RowWrite = digit_writes item (width_of shape) in
-    ap (λ c. to_cell j (writes_in (Cell c) ws)) same ∙ own_cell j ws ∙ sym (append-nil ws)
-word_to_cell shape j n item false e =
-    other_cell j (n % capacity_of shape) (digit_writes item (width_of shape)) (two_numbers j (n % capacity_of shape) e)
+word_to_cell shape j n item b e = grind (arith, same_number, own_cell, append-nil, other_cell, two_numbers)
 
 word_writes-append : (width : ℕ) (xs ys : List ℕ) → word_writes width (xs ++ ys) ≡ word_writes width xs ++ word_writes width ys
 word_writes-append width [] ys = refl
-word_writes-append width (x ∷ xs) ys =
-    ap (λ l. digit_writes x width ++ l) (word_writes-append width xs ys) ∙
-    sym (append_assoc (digit_writes x width) (word_writes width xs) (word_writes width ys))
+word_writes-append width (x ∷ xs) ys = grind (arith, append_assoc, word_writes-append width xs ys)
 
 -- so the writes of words are those of the items that are stored to it
 pub words_to_cell :
     (shape : Shape) (j n : ℕ) (items : List ℕ) → to_cell j (words_phrase shape n items) ≡ word_writes (width_of shape) (stored_to shape j n items)
 words_to_cell shape j n [] = refl
-words_to_cell shape j n (item ∷ items) =
-    let word : List Made = word_write (width_of shape) (n % capacity_of shape) item in
-    let rest : List Made = words_phrase shape (suc n) items in
-    let here : List ℕ = cond (nat_eq j (n % capacity_of shape)) (item ∷ []) [] in
-    to_cell-append j word rest ∙
-    ap (λ z. z ++ to_cell j rest) (word_to_cell shape j n item (nat_eq j (n % capacity_of shape)) refl) ∙
-    ap (λ z. word_writes (width_of shape) here ++ z) (words_to_cell shape j (suc n) items) ∙
-    sym (word_writes-append (width_of shape) here (stored_to shape j (suc n) items))
+words_to_cell shape j n (item ∷ items) = grind (arith, to_cell-append, word_to_cell, word_writes-append, words_to_cell shape j (suc n) items)
 
 part_to_cell : (shape : Shape) (j n : ℕ) (o : Outcome) → to_cell j (word_part P shape n o) ≡ word_writes (width_of shape) (items_here shape j n o)
-part_to_cell shape j n (Passes items) = words_to_cell shape j n items
-part_to_cell shape j n Stops = refl
-part_to_cell shape j n (Asks answer) = refl
+part_to_cell shape j n o = grind (arith, words_to_cell)
 
 -- a count write has no write to a cell
 pub no_cells-count : (shape : Shape) (c : Count) (o : Outcome) → NoCells (count_part P shape c o)
@@ -195,14 +168,7 @@ pub look_to_cell :
     (shape : Shape) (j : ℕ) (c : Count) (l : Look) (rest : List Made) →
     to_cell j (scan_phrase (row_read_by P) l.seen ++ (word_part P shape c.number l.outcome ++ (count_part P shape c l.outcome ++ rest))) ≡
     word_writes (width_of shape) (items_here shape j c.number l.outcome) ++ to_cell j rest
-look_to_cell shape j c l rest =
-    let a : List Made = scan_phrase (row_read_by P) l.seen in
-    let b : List Made = word_part P shape c.number l.outcome in
-    let d : List Made = count_part P shape c l.outcome in
-    to_cell-append j a (b ++ (d ++ rest)) ∙ ap (λ z. z ++ to_cell j (b ++ (d ++ rest))) (none_to_cell j a (no_cells-scan l.seen)) ∙
-    to_cell-append j b (d ++ rest) ∙ ap (λ z. z ++ to_cell j (d ++ rest)) (part_to_cell shape j c.number l.outcome) ∙
-    ap (λ z. word_writes (width_of shape) (items_here shape j c.number l.outcome) ++ z)
-    (to_cell-append j d rest ∙ ap (λ z. z ++ to_cell j rest) (none_to_cell j d (no_cells-count shape c l.outcome)))
+look_to_cell shape j c l rest = grind (arith, to_cell-append, none_to_cell, no_cells-scan, part_to_cell, no_cells-count)
 
 -- the writes of looks are those of their items' words
 pub looks_to_cell :
@@ -210,10 +176,7 @@ pub looks_to_cell :
     to_cell j (look_accesses P shape c looks behind) ≡ word_writes (width_of shape) (cell_items shape j c.number looks)
 looks_to_cell shape j c [] behind none = none
 looks_to_cell shape j c (l ∷ looks) behind none =
-    let next : Count = after_look shape c l.outcome in
-    look_to_cell shape j c l (look_accesses P shape next looks behind) ∙
-    ap (λ z. word_writes (width_of shape) (items_here shape j c.number l.outcome) ++ z) (looks_to_cell shape j next looks behind none) ∙
-    sym (word_writes-append (width_of shape) (items_here shape j c.number l.outcome) (cell_items shape j next.number looks))
+    grind (arith, look_to_cell, word_writes-append, looks_to_cell shape j (after_look shape c l.outcome) looks behind none)
 
 -- each item of these spans fits
 abbrev pub ItemsFit : Shape → List Span → Type 0
@@ -221,19 +184,10 @@ ItemsFit shape xs = (start number : ℕ) (x : Span) → IsSpanAt xs start number
 
 stored_fit : (shape : Shape) (j n : ℕ) (items : List ℕ) → AllFit shape items → All (λ v. v < 2 ^ width_of shape) (stored_to shape j n items)
 stored_fit shape j n [] fit = All-nil _
-stored_fit shape j n (item ∷ items) fit =
-    All-append (λ v. v < 2 ^ width_of shape) (cond (nat_eq j (n % capacity_of shape)) (item ∷ []) []) (stored_to shape j (suc n) items)
-    (by_cell (nat_eq j (n % capacity_of shape))) (stored_fit shape j (suc n) items fit.1)
-  where
-    by_cell : (b : Bool) → All (λ v. v < 2 ^ width_of shape) (cond b (item ∷ []) [])
-    by_cell true zero d l = fit.0
-    by_cell true (suc k) d l = absurd (omega arith)
-    by_cell false k d l = absurd (omega arith)
+stored_fit shape j n (item ∷ items) fit = grind (arith, All-append, stored_fit shape j (suc n) items fit.1)
 
 here_fits : (shape : Shape) (j n : ℕ) (o : Outcome) → AllFit shape (items_of o) → All (λ v. v < 2 ^ width_of shape) (items_here shape j n o)
-here_fits shape j n (Passes items) fit = stored_fit shape j n items fit
-here_fits shape j n Stops fit = All-nil _
-here_fits shape j n (Asks answer) fit = All-nil _
+here_fits shape j n o fit = grind (arith, stored_fit, All-nil)
 
 -- so those stored to a cell do
 pub cell_items_fit :

@@ -1,5 +1,5 @@
 -- The writes to the digits of a cell in a history: they are the producer's, with how many began before a place.
-use Rattle.std.proofs.Common.{◌≡◌, ℕ, zero, suc, ◌*◌, ◌<◌, Bool, true, false, Option, Some, None, List, [], ◌∷◌, ◌++◌, length, take, drop, refl, sym, ap, ◌∙◌, arith, append_assoc, append-nil, length-append}
+use Rattle.std.proofs.Common.{◌≡◌, ℕ, zero, suc, ◌*◌, ◌<◌, Bool, false, Option, Some, None, List, [], ◌∷◌, ◌++◌, length, take, drop, refl, sym, ap, ◌∙◌, arith, append_assoc, append-nil, length-append}
 use Rattle.std.specs.Prelude.{slice_get}
 use Rattle.std.specs.List.{cons_option}
 use Rattle.std.proofs.lemmas.List.{take-append-drop}
@@ -7,9 +7,8 @@ use Rattle.std.proofs.lemmas.List.Elements.{filter-append}
 use Rattle.bits_core.specs.declared.events.Side.{Side}
 use Rattle.bits_core.specs.declared.events.Side.TheVariants.{P}
 use Rattle.bits_core.specs.declared.events.Bit.{Bit}
-use Rattle.bits_core.specs.declared.events.Bit.TheVariants.{S, R, X, Cell}
+use Rattle.bits_core.specs.declared.events.Bit.TheVariants.{Cell}
 use Rattle.bits_core.specs.declared.events.Act.{Act}
-use Rattle.bits_core.specs.declared.events.Act.TheVariants.{ReadBegin, ReadEnd, WriteBegin, WriteEnd}
 use Rattle.bits_core.specs.declared.events.Access.TheVariants as begins
 use Rattle.bits_core.specs.declared.events.Event.{Event}
 use Rattle.bits_core.specs.declared.shapes.Shape.{Shape}
@@ -17,26 +16,19 @@ use Rattle.bits_core.specs.Shape.{IsByRightSide}
 use Rattle.bits_core.specs.Bits.{same_side, doer, begun_access, is_by}
 use Rattle.bits_core.specs.Intervals.{IsWrite}
 use Rattle.bits_core.specs.Lawful.{IsLawful}
-use Rattle.bits_core.specs.Made.{Made, Read, Write, begin_event, end_event, events_of, subhistory, clock, IsPrefix}
+use Rattle.bits_core.specs.Made.{Made, Read, Write, end_event, events_of, subhistory, clock, IsPrefix}
 use Rattle.register_core.specs.Row.{RowWrite, row_write}
 use Rattle.register_core.specs.WordLaw.{number_in_cell, cell_write, cell_writes}
 use Rattle.ring_core.proofs.Machines.Following.{events_of-append, length-events}
 use Rattle.ring_core.proofs.Readings.Cuts.{cut}
 use Rattle.ring_core.proofs.Cells.CellTimes.{to_cell, own_number}
-use Rattle.register_core.proofs.RowWrites.{row_write-got as no_row-answer, row_write-read as no_row-read, row_write-wrote as no_row-end}
-use Rattle.register_core.proofs.Numbers.{cons_lt as more_by_one}
+use Rattle.register_core.proofs.RowWrites.{row_write-got as no_row-answer, row_write-wrote as no_row-end}
 
 -- ---- only the producer writes cells
 
 -- an event that is not the producer's is not a write to a cell
 not_cell : (j : ℕ) (s : Side) (b : Bit) (a : Act) → s ≡ doer b a → same_side P s ≡ false → row_write (number_in_cell j b) a ≡ None
-not_cell j s b ReadBegin e f = no_row-read (number_in_cell j b)
-not_cell j s b (ReadEnd v) e f = no_row-answer (number_in_cell j b) v
-not_cell j s b WriteEnd e f = no_row-end (number_in_cell j b)
-not_cell j s (S i) (WriteBegin v) e f = refl
-not_cell j s (R i) (WriteBegin v) e f = refl
-not_cell j s X (WriteBegin v) e f = refl
-not_cell j s (Cell l i) (WriteBegin v) e f = absurd (let g : true ≡ false = sym (ap (same_side P) e) ∙ f in cc)
+not_cell j s b a e f = grind arith
 
 -- each event is by the side that may do it
 abbrev AllRight : Shape → List Event → Type 0
@@ -45,8 +37,7 @@ AllRight shape h = (place : ℕ) (e : Event) → slice_get h place ≡ Some e �
 by_owner :
     (j : ℕ) (e : Event) (h : List Event) (b : Bool) → is_by P e ≡ b → (b ≡ false → cell_write j e ≡ None) →
     cell_writes j h ≡ cell_writes j (subhistory P h) → cell_writes j (e ∷ h) ≡ cell_writes j (subhistory P (e ∷ h))
-by_owner j e h true by none rest = rw by (ap (cons_option (cell_write j e)) rest)
-by_owner j e h false by none rest = rw by (ap (λ o. cons_option o (cell_writes j h)) (none refl) ∙ rest)
+by_owner j e h b by none rest = grind arith
 
 -- so the writes to a cell are among the producer's own events
 own_writes : (shape : Shape) (j : ℕ) (h : List Event) → AllRight shape h → cell_writes j h ≡ cell_writes j (subhistory P h)
@@ -66,8 +57,7 @@ taken_from (x ∷ h) (suc t) (suc i) e there = taken_from h t i e there
 made_writes_cons :
     (j : ℕ) (x : Made) (made : List Made) → cell_write j (end_event P x) ≡ None → cell_writes j (events_of P made) ≡ to_cell j made →
     cell_writes j (events_of P (x ∷ made)) ≡ to_cell j (x ∷ made)
-made_writes_cons j x made none rest =
-    ap (cons_option (cell_write j (begin_event P x))) (ap (λ o. cons_option o (cell_writes j (events_of P made))) none ∙ rest)
+made_writes_cons j x made none rest = grind arith
 
 events_write : (j : ℕ) (made : List Made) → cell_writes j (events_of P made) ≡ to_cell j made
 events_write j [] = refl
@@ -81,8 +71,7 @@ own_before :
 own_before s h before behind t (rest, e) count =
     let parts : subhistory s (take t h) ++ subhistory s (drop t h) ≡ subhistory s h = sym (filter-append (is_by s) (take t h) (drop t h)) ∙ ap (subhistory s) (take-append-drop t h) in
     let more : List Event = subhistory s (drop t h) ++ rest in
-    let all : subhistory s (take t h) ++ more ≡ events_of s before ++ events_of s behind =
-    sym (append_assoc (subhistory s (take t h)) (subhistory s (drop t h)) rest) ∙ ap (λ l. l ++ rest) parts ∙ e ∙ events_of-append s before behind in
+    let all : subhistory s (take t h) ++ more ≡ events_of s before ++ events_of s behind = grind (arith, append_assoc, events_of-append) in
     let (none, is, other) = cut (events_of s before) (events_of s behind) (subhistory s (take t h)) more (omega (arith, count, length-events s before)) all in
     by_length none is (omega (arith, count, length-events s before, ap length is, length-append (events_of s before) none))
   where
@@ -101,8 +90,7 @@ writes_before shape h lawful j before behind t follows count =
 -- ---- the order of the writes
 
 some_more : {A : Type 0} → (o : Option A) (x : A) (xs : List A) → o ≡ Some x → 0 < length (cons_option o xs)
-some_more None x xs e = absurd (cc)
-some_more (Some y) x xs e = omega arith
+some_more o x xs e = grind arith
 
 -- a write counts at each later place
 write_counts :
@@ -110,35 +98,22 @@ write_counts :
     length (cell_writes j (take a h)) < length (cell_writes j (take b h))
 write_counts j [] a b e w there is l = absurd (cc)
 write_counts j (x ∷ h) a zero e w there is l = absurd (omega arith)
-write_counts j (x ∷ h) zero (suc b) e w there is l =
-    let same : x ≡ e = cc in
-    some_more (cell_write j x) w (cell_writes j (take b h)) (ap (cell_write j) same ∙ is)
-write_counts j (x ∷ h) (suc a) (suc b) e w there is l =
-    more_by_one (cell_write j x) (cell_writes j (take a h)) (cell_writes j (take b h)) (write_counts j h a b e w there is (omega arith))
+write_counts j (x ∷ h) zero (suc b) e w there is l = grind (arith, some_more)
+write_counts j (x ∷ h) (suc a) (suc b) e w there is l = grind (arith, write_counts j h a b e w there is (omega arith))
 
 -- and at the end of the history
 write_counts_at_end :
     (j : ℕ) (h : List Event) (a : ℕ) (e : Event) (w : RowWrite) → slice_get h a ≡ Some e → cell_write j e ≡ Some w →
     length (cell_writes j (take a h)) < length (cell_writes j h)
 write_counts_at_end j [] a e w there is = absurd (cc)
-write_counts_at_end j (x ∷ h) zero e w there is =
-    let same : x ≡ e = cc in
-    some_more (cell_write j x) w (cell_writes j h) (ap (cell_write j) same ∙ is)
-write_counts_at_end j (x ∷ h) (suc a) e w there is =
-    more_by_one (cell_write j x) (cell_writes j (take a h)) (cell_writes j h) (write_counts_at_end j h a e w there is)
+write_counts_at_end j (x ∷ h) zero e w there is = grind (arith, some_more)
+write_counts_at_end j (x ∷ h) (suc a) e w there is = grind (arith, write_counts_at_end j h a e w there is)
 
 -- an act that begins a write to a digit of the cell
 cell_act :
     (j d : ℕ) (v : Bool) (b : Bit) (a : Act) → begun_access b a ≡ Some (begins.Write (Cell j d) v) →
     row_write (number_in_cell j b) a ≡ Some (record { bit = d; value = v })
-cell_act j d v b ReadBegin e = absurd (cc)
-cell_act j d v b (ReadEnd w) e = absurd (cc)
-cell_act j d v b WriteEnd e = absurd (cc)
-cell_act j d v b (WriteBegin w) e =
-    let bits : b ≡ Cell j d = cc in
-    let values : w ≡ v = cc in
-    ap (λ c. row_write (number_in_cell j c) (WriteBegin w)) bits ∙ ap (λ n. row_write n (WriteBegin w)) (own_number j d) ∙
-    ap (λ z. Some (record { bit = d; value = z })) values
+cell_act j d v b a e = grind (arith, own_number)
 
 module _ (h : List Event) (j d : ℕ) (v : Bool) (start stop : ℕ) (w : IsWrite h (Cell j d) v start stop) where
   is_cell_write : cell_write j w.event ≡ Some (record { bit = d; value = v })

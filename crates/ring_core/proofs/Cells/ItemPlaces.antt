@@ -1,5 +1,5 @@
 -- Where an item is stored and where it is taken, by the call that does it.
-use Rattle.std.proofs.Common.{refl}
+use Rattle.std.proofs.Common.{arith}
 use Rattle.std.specs.Prelude.{◌≡◌, ℕ, ◌+◌, ◌-◌, ◌*◌, ◌%◌, Some, List, slice_get}
 use Rattle.bits_core.specs.declared.events.Side.TheVariants.{P, C}
 use Rattle.bits_core.specs.declared.events.Event.{Event}
@@ -31,8 +31,7 @@ pub record HasItem {X : Type 0} (IsAt : X → (n start stop : ℕ) → Type 0) (
 pub has_item :
     {X : Type 0} → (IsAt : X → (n start stop : ℕ) → Type 0) (front : X → List Made) (items : X → List ℕ) (width : ℕ) (x : X) (n start stop index item : ℕ) → IsAt x n start stop →
     slice_get (items x) index ≡ Some item → HasItem IsAt front items width (n + index) item (start + events_in (front x) + 2 * (index * width)) stop
-has_item IsAt front items width x n start stop index item at e =
-    record { call = x; n = n; start = start; index = index; is_call = at; has = e; number = refl; word_is = refl }
+has_item IsAt front items width x n start stop index item at e = grind arith
 
 -- it is stored by a put, and taken by a take
 abbrev pub put_scan : Put → List Made

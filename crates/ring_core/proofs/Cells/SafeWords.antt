@@ -1,5 +1,5 @@
 -- What reads of a cell return: if no put's word write overlaps a take's word read, the item written last.
-use Rattle.std.proofs.Common.{◌≡◌, ◌⊎◌, inl, inr, ℕ, zero, suc, ◌+◌, ◌-◌, ◌*◌, ◌/◌, ◌%◌, ◌^◌, ◌<◌, ◌≤◌, Bool, true, false, Some, List, [], ◌∷◌, ◌++◌, length, take, refl, sym, ap, subst, ◌∙◌, arith}
+use Rattle.std.proofs.Common.{◌≡◌, ◌⊎◌, inl, inr, ℕ, zero, suc, ◌+◌, ◌-◌, ◌*◌, ◌%◌, ◌^◌, ◌<◌, ◌≤◌, Bool, Some, List, [], ◌∷◌, ◌++◌, length, take, refl, sym, ap, subst, ◌∙◌, arith}
 use Rattle.std.specs.Prelude.{slice_get}
 use Rattle.std.proofs.lemmas.Nat.{div-mul-add}
 use Rattle.std.proofs.lemmas.Option.{slice_get_within}
@@ -36,16 +36,9 @@ use Rattle.register_core.proofs.LawLemmas.{reads_are_made_words, word_is_safe, w
 
 -- a close writes to no cell
 pub close_to_cell : (closes : Bool) (j : ℕ) → to_cell j (close_phrase closes) ≡ []
-close_to_cell true j = refl
-close_to_cell false j = refl
+close_to_cell closes j = grind arith
 
 -- ---- lists and numbers
-
--- what is in the list of an outcome's items is one of them
-stored_within : (xs : List ℕ) (i item : ℕ) → slice_get xs i ≡ Some item → i < length xs
-stored_within [] i item e = absurd (cc)
-stored_within (x ∷ xs) zero item e = omega arith
-stored_within (x ∷ xs) (suc i) item e = omega (arith, stored_within xs i item e)
 
 -- an element of a list, with what is before it and after it
 split_at :
@@ -64,16 +57,11 @@ stands_there (y ∷ before) x after = stands_there before x after
 
 -- a multiple plus less than the factor determines both
 same_multiple : (a b w d : ℕ) → d < w → a * w + d ≡ b * w → (a ≡ b) × (d ≡ 0)
-same_multiple a b w d l e =
-    let quotients : a ≡ b = sym (div-mul-add a w d l) ∙ ap (λ k. k / w) (omega (arith, e)) ∙ div-mul-add b w 0 (omega (arith, l)) in
-    (quotients, omega (arith, e, ap (λ k. k * w) quotients))
+same_multiple a b w d l e = grind (arith, div-mul-add a w d l, div-mul-add b w 0 (omega (arith, l)))
 
 -- a larger multiple is larger by one at least
 larger_multiple : (a b w : ℕ) → a < b → a * w + w ≤ b * w
-larger_multiple a b w l =
-    let c : ℕ = b - suc a in
-    let sum : suc a + c ≡ b = omega (arith, l) in
-    omega (arith, ap (λ k. k * w) sum, add-mul (suc a) c w, suc-mul a w)
+larger_multiple a b w l = grind (arith, add-mul, suc-mul)
 
 module _ (shape : Shape) (h : List Event) (lawful : IsLawful shape h) (looks looks' : List Look) (behind : List Made)
     (none : (j : ℕ) → to_cell j behind ≡ [])
@@ -151,9 +139,7 @@ module _ (shape : Shape) (h : List Event) (lawful : IsLawful shape h) (looks loo
           behind = digits_before j item place r d start l (omega (arith, made_at.start_is.before, g.place_is));
         };
         starts = (omega (arith, made_at.start_is.before, g.place_is), omega (arith, made_at.start_is.past, g.place_is));
-        ended = λ m.
-            (let (stop_is, ends) = made_at.ended (omega (arith, m, g.place_is)) in
-            omega (arith, stop_is.before, g.place_is));
+        ended = λ m. grind arith;
       }
 
   -- digit writes of the cell with one number end at one place
@@ -194,8 +180,7 @@ module _ (shape : Shape) (h : List Event) (lawful : IsLawful shape h) (looks loo
       let g : CellTime shape looks first_count j d (2 * length before) = cell_time shape first_count looks behind before x after j d w.first.value (none j) is x_is in
       let zero_more : 0 + (g.number + g.index) ≡ g.number + g.index = omega arith in
       let word_at : ℕ = g.start + g.put.scan + 2 * (g.index * width) in
-      let r : WordTime shape looks behind first_count j g.item word_at =
-      word_time shape first_count looks behind j g.start g.number g.index g.put g.item g.stands g.stored g.same_cell in
+      let r : WordTime shape looks behind first_count j g.item word_at = grind (arith, word_time) in
       let at : clock P h start ≡ word_at + 2 * d = omega (arith, place.start_is.before, places, g.place_is) in
       let digits : r.nth * width + d ≡ n * width = sym (digits_before j g.item word_at r d start g.within at) ∙ w.first.behind in
       let (numbers, first_digit) = same_multiple r.nth n width d g.within digits in
@@ -217,13 +202,7 @@ module _ (shape : Shape) (h : List Event) (lawful : IsLawful shape h) (looks loo
   -- the words of a put are within its word accesses
   word_within :
       (at number index : ℕ) (put : Span) → IsSpanAt puts at number put → index < counts put.outcome → put.scan + 2 * (index * width) + 2 * width ≤ before_count put
-  word_within at number index put st has =
-      omega (
-        arith,
-        word_events P shape first_count looks at number put st (omega (arith, has)),
-        multiple_up (suc index) (counts put.outcome) width has,
-        suc-mul index width,
-      )
+  word_within at number index put st has = grind (arith, word_events, multiple_up, suc-mul)
 
   -- the word write of a put, ended before place t
   record EndedWord (j t place nth : ℕ) : Type 0 where
@@ -243,19 +222,7 @@ module _ (shape : Shape) (h : List Event) (lawful : IsLawful shape h) (looks loo
       let first : Digit j 0 place r.nth = digit_begun j item place r 0 some (omega (arith, all_come, some)) in
       let last : Digit j (width - 1) place r.nth = digit_begun j item place r (width - 1) (omega (arith, some)) (omega (arith, all_come, some)) in
       let no_more : r.nth * width + 0 ≡ r.nth * width = omega arith in
-      record {
-        start = first.start;
-        stop = last.stop;
-        write = record {
-          first_stop = first.stop;
-          first = subst (λ k. IsDigitWrite j h k first.start first.stop) no_more first.write;
-          last = inl (last.start, last.write);
-        };
-        last_start = last.start;
-        last = last.write;
-        before = earlier last.stop t (omega (arith, last.ended (omega (arith, all_come, some)), ended, some));
-        starts = (omega (arith, first.starts.0), omega (arith, first.starts.1));
-      }
+      grind (arith, earlier, all_come)
 
   -- a word write whose last digit write has ended has ended
   ends_there :
@@ -341,8 +308,7 @@ module _ (shape : Shape) (h : List Event) (lawful : IsLawful shape h) (looks loo
         let ended : g.at + before_count g.put ≤ clock P h first = had_ended n start g begun in
         let r : EndedWord cell first word_at g.word.nth =
         ended_word cell first g.item word_at g.word (omega (arith, ended, word_within g.at g.number g.index g.put g.stands g.has)) in
-        let digits : IsDigitWrite cell h (n * width + (width - 1)) r.last_start r.stop =
-        subst (λ q. IsDigitWrite cell h (q * width + (width - 1)) r.last_start r.stop) g.nth_is r.last in
+        let digits : IsDigitWrite cell h (n * width + (width - 1)) r.last_start r.stop = grind arith in
         not_before (omega (arith, r.before, ends_there cell n start stop r.last_start r.stop w digits))
       where
         same_place : last ≤ start → (last < start → ⊥) → start ≡ last
@@ -355,9 +321,7 @@ module _ (shape : Shape) (h : List Event) (lawful : IsLawful shape h) (looks loo
     read_accesses : ReadTime shape (look_accesses C shape first_count looks' []) cell item from
     read_accesses =
         let zero_more : 0 + k + i ≡ k + i = omega arith in
-        subst (ReadTime shape (look_accesses C shape first_count looks' []) cell item) (sym from_is)
-        (subst (λ n. ReadTime shape (look_accesses C shape first_count looks' []) (n % capacity_of shape) item (s + x.scan + 2 * (i * width))) zero_more
-        (read_time shape first_count looks' [] s k x i item stands at))
+        grind (arith, from_is, read_time)
 
     abbrev begins_at : ℕ → ℕ
     begins_at = begin_place C h (length read_accesses.front)
@@ -369,14 +333,10 @@ module _ (shape : Shape) (h : List Event) (lawful : IsLawful shape h) (looks loo
     all_come = omega (arith, clock_within C h (suc last), last_is)
 
     first_place : begins_at 0 ≡ first
-    first_place =
-        let below : from < length (subhistory C h) = omega (arith, all_come, end_from, some_digit) in
-        ap (place_of C h) (omega (arith, read_accesses.place_is)) ∙ sym (one_place C h from first first_is)
+    first_place = grind (arith, all_come, end_from, some_digit, read_accesses, one_place)
 
     last_place : ends_at (width - 1) ≡ last
-    last_place =
-        ap (place_of C h) (omega (arith, read_accesses.place_is, end_from, some_digit)) ∙
-        sym (one_place C h e last last_is)
+    last_place = grind (arith, read_accesses, end_from, some_digit, one_place)
 
     item_fits : item < 2 ^ width
     item_fits = (fits_at shape (items_of x.outcome) i item (fits' s k x stands) at).0
@@ -433,10 +393,7 @@ module _ (shape : Shape) (h : List Event) (lawful : IsLawful shape h) (looks loo
         w.last known_word.nth known_ended.start known_ended.stop known_ended.write (omega (arith, known_ended.before, first_place)) in
         let begun : w.start < first = begins_before cell w.number w.start w.stop first w.write (omega (arith, w.ended, first_place)) (omega (arith, within)) in
         elim (at_most_or_above w.number known_word.nth) [
-          | inl m ↦ (
-              let same : w.number ≡ known_word.nth = omega (arith, m, at_most) in
-              let items_are : Some item ≡ Some written = sym w.writes ∙ ap (slice_get items) same ∙ known_word.listed in
-              cc)
+          | inl m ↦ grind (arith, known_word)
           | inr m ↦ absurd (
               known.no_later g.at g.number g.index g.put g.stands g.has g.same_cell (later_put w.number w.start w.stop w.write g m)
               (omega (arith, had_ended w.number w.start g (omega (arith, begun, in_order)))))

@@ -1,5 +1,5 @@
 -- A word among the accesses of a program is that of an item of a look.
-use Rattle.std.proofs.Common.{◌≡◌, ◌⊎◌, inl, inr, ℕ, zero, suc, ◌+◌, ◌*◌, ◌%◌, ◌<◌, Bool, true, false, Some, List, [], ◌∷◌, ◌++◌, length, refl, sym, ap, subst, ◌∙◌, arith, length-append, append-nil, append_assoc}
+use Rattle.std.proofs.Common.{◌≡◌, ◌⊎◌, inl, inr, ℕ, zero, suc, ◌+◌, ◌*◌, ◌%◌, ◌<◌, Bool, true, false, Some, List, [], ◌∷◌, ◌++◌, length, refl, sym, ap, ◌∙◌, arith, length-append, append-nil, append_assoc, subst}
 use Rattle.std.specs.Prelude.{slice_get}
 use Rattle.std.proofs.Math.Nat.{suc-mul}
 use Rattle.bits_core.specs.declared.events.Side.{Side}
@@ -9,7 +9,7 @@ use Rattle.bits_core.specs.declared.events.Bit.TheVariants.{X, Cell}
 use Rattle.bits_core.specs.declared.shapes.Shape.{Shape}
 use Rattle.bits_core.specs.Shape.{capacity_of, width_of}
 use Rattle.bits_core.specs.Made.{Made, Read, Write}
-use Rattle.register_core.specs.Phrases.{RowWrite, row_bit, writes_in, digit, digit_writes, word_read, word_write, zero_reads, scan_phrase, row_read_by}
+use Rattle.register_core.specs.Phrases.{RowWrite, row_bit, writes_in, digit, word_read, word_write, zero_reads, scan_phrase, row_read_by}
 use Rattle.ring_core.specs.Counts.{Count, count_bits}
 use Rattle.ring_core.specs.Puts.{words_phrase, close_phrase}
 use Rattle.ring_core.proofs.Readings.Parts.{NoneAre, none-append, behind, never}
@@ -34,16 +34,14 @@ word_of P width j item = word_write width j item
 word_of C width j item = word_read width j item
 
 not_later : (s : Side) (j i : ℕ) (v : Bool) → IsFirst s (digit_access s j (suc i) v) → ⊥
-not_later P j i v (k, u, e) = let other : suc i ≡ 0 = cc in omega (arith, other)
-not_later C j i v (k, u, e) = let other : suc i ≡ 0 = cc in omega (arith, other)
+not_later s j i v h1 = grind arith
 
 pub writes-append : (row : ℕ → Bit) (xs ys : List RowWrite) → writes_in row (xs ++ ys) ≡ writes_in row xs ++ writes_in row ys
 writes-append row [] ys = refl
 writes-append row (x ∷ xs) ys = ap (λ l. Write (row x.bit) x.value ∷ l) (writes-append row xs ys)
 
 digit_last : (s : Side) (w j item : ℕ) → word_of s (suc w) j item ≡ word_of s w j item ++ digit_access s j w (digit w item) ∷ []
-digit_last P w j item = writes-append (Cell j) (digit_writes item w) (record { bit = w; value = digit w item } ∷ [])
-digit_last C w j item = refl
+digit_last s w j item = grind (arith, writes-append)
 
 -- what follows the first digit
 record Front (s : Side) (w j item : ℕ) : Type 0 where
@@ -53,8 +51,7 @@ record Front (s : Side) (w j item : ℕ) : Type 0 where
   pub long : suc (length tail) ≡ w
 
 front_of : (s : Side) (w j item : ℕ) → Front s (suc w) j item
-front_of P zero j item = record { tail = []; is = refl; none = tt; long = refl }
-front_of C zero j item = record { tail = []; is = refl; none = tt; long = refl }
+front_of s zero j item = grind arith
 front_of s (suc w) j item =
     let r = front_of s w j item in
     let last : Made = digit_access s j (suc w) (digit (suc w) item) in
@@ -69,10 +66,6 @@ some_digits : (s : Side) (w j item : ℕ) → 0 < w → Front s w j item
 some_digits s zero j item l = absurd (omega (arith, l))
 some_digits s (suc w) j item l = front_of s w j item
 
-same_cell : (s : Side) (j k : ℕ) (u v : Bool) → digit_access s j 0 u ≡ digit_access s k 0 v → j ≡ k
-same_cell P j k u v e = cc
-same_cell C j k u v e = cc
-
 -- ---- the words of items, one after the other
 
 abbrev words_of : Side → Shape → ℕ → List ℕ → List Made
@@ -80,13 +73,11 @@ words_of P shape n items = words_phrase shape n items
 words_of C shape n items = words_read shape n items
 
 words_nil : (s : Side) (shape : Shape) (n : ℕ) → words_of s shape n [] ≡ []
-words_nil P shape n = refl
-words_nil C shape n = refl
+words_nil s shape n = grind arith
 
 words_cons : (s : Side) (shape : Shape) (n item : ℕ) (items : List ℕ) →
     words_of s shape n (item ∷ items) ≡ word_of s (width_of shape) (n % capacity_of shape) item ++ words_of s shape (suc n) items
-words_cons P shape n item items = refl
-words_cons C shape n item items = refl
+words_cons s shape n item items = grind arith
 
 -- the item whose word begins there
 record ItemAt (s : Side) (shape : Shape) (n : ℕ) (items : List ℕ) (before rest : List Made) (cell : ℕ) (v : Bool) : Type 0 where
@@ -105,29 +96,17 @@ item_there :
     (s : Side) (shape : Shape) (n : ℕ) (items : List ℕ) (more before rest : List Made) (cell : ℕ) (v : Bool) →
     words_of s shape n items ++ more ≡ before ++ digit_access s cell 0 v ∷ rest →
     ItemAt s shape n items before rest cell v ⊎ IsBehind (words_of s shape n items) more before (digit_access s cell 0 v) rest
-item_there s shape n [] more before rest cell v e =
-    let none = words_nil s shape n in
-    inr (before, ap (λ l. l ++ before) (sym none), ap (λ l. l ++ more) (sym none) ∙ e)
+item_there s shape n [] more before rest cell v e = search (arith, words_nil)
 item_there s shape n (item ∷ items) more [] rest cell v e =
     let w : ℕ = width_of shape in
     let j : ℕ = n % capacity_of shape in
     let later : List Made = words_of s shape (suc n) items ++ more in
     let r = some_digits s w j item shape.has_digits in
-    let joined : word_of s w j item ++ later ≡ digit_access s cell 0 v ∷ rest =
-    sym (append_assoc (word_of s w j item) (words_of s shape (suc n) items) more) ∙ ap (λ l. l ++ more) (sym (words_cons s shape n item items)) ∙ e in
+    let joined : word_of s w j item ++ later ≡ digit_access s cell 0 v ∷ rest = grind (arith, append_assoc, words_cons) in
     let first : digit_access s j 0 (digit 0 item) ∷ (r.tail ++ later) ≡ digit_access s cell 0 v ∷ rest = sym (ap (λ l. l ++ later) r.is) ∙ joined in
     let heads : digit_access s j 0 (digit 0 item) ≡ digit_access s cell 0 v = cc in
-    let same : j ≡ cell = same_cell s j cell (digit 0 item) v heads in
     let number : n + 0 ≡ n = omega arith in
-    inl (record {
-      index = 0;
-      item = item;
-      listed = refl;
-      cell_is = ap (λ k. k % capacity_of shape) number ∙ same;
-      long = omega arith;
-      after = later;
-      there = sym joined ∙ ap (λ k. word_of s w k item ++ later) same;
-    })
+    grind arith
 item_there s shape n (item ∷ items) more (y ∷ before) rest cell v e =
     let w : ℕ = width_of shape in
     let j : ℕ = n % capacity_of shape in
@@ -136,9 +115,7 @@ item_there s shape n (item ∷ items) more (y ∷ before) rest cell v e =
     let z : Made = digit_access s cell 0 v in
     let r = some_digits s w j item shape.has_digits in
     let joined : word ++ (words ++ more) ≡ y ∷ (before ++ z ∷ rest) = sym (append_assoc word words more) ∙ ap (λ l. l ++ more) (sym (words_cons s shape n item items)) ∙ e in
-    let first : digit_access s j 0 (digit 0 item) ∷ (r.tail ++ (words ++ more)) ≡ y ∷ (before ++ z ∷ rest) = sym (ap (λ l. l ++ (words ++ more)) r.is) ∙ joined in
     let later : r.tail ++ (words ++ more) ≡ before ++ z ∷ rest = cc in
-    let head : y ≡ digit_access s j 0 (digit 0 item) = cc in
     let (a, a_is, a_left) = behind (IsFirst s) r.tail (words ++ more) before rest z (cell, v, refl) r.none later in
     let front : y ∷ before ≡ digit_access s j 0 (digit 0 item) ∷ (r.tail ++ a) = cc in
     let word_is : y ∷ before ≡ word ++ a = front ∙ ap (λ l. l ++ a) (sym r.is) in
@@ -154,15 +131,13 @@ item_there s shape n (item ∷ items) more (y ∷ before) rest cell v e =
             after = q.after;
             there = q.there;
           })
-      | inr (b, b_is, left) ↦
-          inr (b, word_is ∙ ap (λ l. word ++ l) b_is ∙ sym (append_assoc word words b) ∙ ap (λ l. l ++ b) (sym (words_cons s shape n item items)), left)
+      | inr (b, b_is, left) ↦ grind (arith, append_assoc, words_cons)
     ]
 
 -- ---- accesses with which no word begins
 
 not_scan : (s : Side) (i : ℕ) (u : Bool) → IsFirst s (Read (row_read_by s i) u) → ⊥
-not_scan P i u (k, v, e) = absurd (cc)
-not_scan C i u (k, v, e) = absurd (cc)
+not_scan s i u h1 = grind arith
 
 none-zeros : (s : Side) (n : ℕ) → NoneAre (IsFirst s) (zero_reads (row_read_by s) n)
 none-zeros s zero = tt
@@ -172,8 +147,7 @@ none-scan : (s : Side) (c : ℕ) → NoneAre (IsFirst s) (scan_phrase (row_read_
 none-scan s c = none-append (IsFirst s) (zero_reads (row_read_by s) c) (Read (row_read_by s c) true ∷ []) (none-zeros s c) (not_scan s c true, tt)
 
 not_count : (s : Side) (i : ℕ) (u : Bool) → IsFirst s (Write (row_bit s i) u) → ⊥
-not_count P i u (k, v, e) = absurd (cc)
-not_count C i u (k, v, e) = absurd (cc)
+not_count s i u h1 = grind arith
 
 none-count : (s : Side) (writes : List RowWrite) → NoneAre (IsFirst s) (writes_in (row_bit s) writes)
 none-count s [] = tt
@@ -185,16 +159,13 @@ none-count_part s shape c Stops = tt
 none-count_part s shape c (Asks answer) = tt
 
 not_close : (s : Side) (u : Bool) → IsFirst s (Read X u) → ⊥
-not_close P u (k, v, e) = absurd (cc)
-not_close C u (k, v, e) = absurd (cc)
+not_close s u h1 = grind arith
 
 not_closing : (s : Side) (u : Bool) → IsFirst s (Write X u) → ⊥
-not_closing P u (k, v, e) = absurd (cc)
-not_closing C u (k, v, e) = absurd (cc)
+not_closing s u h1 = grind arith
 
 pub none-close : (s : Side) (closes : Bool) → NoneAre (IsFirst s) (close_phrase closes)
-none-close s false = tt
-none-close s true = (not_closing s true, tt)
+none-close s closes = grind (arith, not_closing)
 
 -- ---- the word of a look
 

@@ -1,6 +1,5 @@
 -- Every run of the ring is linearizable.
-use Rattle.std.proofs.Common.{◌≡◌, inl, inr, ℕ, ◌+◌, ◌-◌, ◌<◌, ◌≤◌, Bool, true, false, nat_le, if◌then◌else◌, List, [], ◌∷◌, ◌++◌, length, refl, sym, ap, subst, ◌∙◌, arith, length-append}
-use Rattle.std.proofs.lemmas.Bool.{le-leb}
+use Rattle.std.proofs.Common.{◌≡◌, inl, inr, ℕ, ◌+◌, ◌<◌, ◌≤◌, true, false, List, [], ◌∷◌, ◌++◌, length, refl, sym, ap, subst, ◌∙◌, arith, length-append}
 use Rattle.queue_calls.specs.Queue.{queue}
 use Rattle.bits_core.specs.declared.events.Side.TheVariants.{P, C}
 use Rattle.bits_core.specs.declared.events.Event.{Event}
@@ -9,23 +8,23 @@ use Rattle.bits_core.specs.Shape.{batch_of, capacity_of, take_batch_of}
 use Rattle.bits_core.specs.Made.{subhistory, clock}
 use Rattle.ring_core.specs.Counts.{Count, first_count}
 use Rattle.ring_core.specs.Puts.{Puts, put_phrases}
-use Rattle.ring_core.specs.Takes.{Take, Item, ItemAfterClose, Empty, Takes, taken_in, count_after, take_phrase, take_phrases, end_phrase, take_program}
+use Rattle.ring_core.specs.Takes.{Take, Takes, taken_in, take_phrases, end_phrase, take_program}
 use Rattle.ring_core.specs.Items.{events_in, items_put, items_taken, Tells}
+use Rattle.ring_core.proofs.Readings.Over.{all_are, taken_all}
 use Rattle.ring_core.proofs.EndedCounts.{taken_begun}
 use Rattle.ring_core.specs.RingLaw.{IsRun}
 use Rattle.ring_core.specs.Linear.{TimedOperation, EndsBefore, KeepsTime, IsLinearizableRun}
 use Rattle.ring_core.proofs.OverSpans.Spans.{counts_begun, counts_ended}
 use Rattle.ring_core.proofs.OverSpans.LookSpans.{put_spans, take_spans}
 use Rattle.ring_core.proofs.OverSpans.RingOfSpans.{LawOfSpans}
-use Rattle.ring_core.proofs.CountRow.{past_is}
 use Rattle.ring_core.proofs.OverSpans.Timeline.{ended_begun, length-begun_items}
 use Rattle.ring_core.proofs.OverSpans.Looks.{proper_puts, proper_takes, puts_items}
 use Rattle.ring_core.proofs.OverSpans.CallSpans.{stands_at}
 use Rattle.ring_core.proofs.CallCounts.{taken_begun_is}
 use Rattle.ring_core.proofs.HistoryClocks.{clock-zero}
 use Rattle.ring_core.proofs.OwnEvents.{clock_within, clock_end, clock_rises}
-use Rattle.ring_core.proofs.Linear.Turns.{In, Op, TakeOp, Tallies}
-use Rattle.ring_core.proofs.Linear.OneOrder.{IsTimely, Ordered, PutsNumbered, TakesNumbered, items_put_by, IsClosedBy, goes}
+use Rattle.ring_core.proofs.Linear.Turns.{In, Op, Tallies}
+use Rattle.ring_core.proofs.Linear.OneOrder.{IsTimely, Ordered, Numbered, items_by, IsClosedBy, goes}
 use Rattle.ring_core.proofs.Linear.PutTurns.{put_turns, put_turns-ops, put_turns-sorted}
 use Rattle.ring_core.proofs.Linear.PutTurnFacts.{put_turns-numbered, put_turns-items, put_turns-closed, puts_hold}
 use Rattle.ring_core.proofs.Linear.TakeTurns.{take_turns, take_turns-ops, take_turns-sorted, take_turns-numbered, taken_from}
@@ -45,34 +44,14 @@ keeps_time h order r a b front between rest e = timely_at h a b front between re
 
 -- once all takes have ended, as many items were taken as they take
 
-some_taken : (long t : ℕ) (these items : List ℕ) → long ≤ t → length ((if nat_le long t then these else []) ++ items) ≡ length these + length items
-some_taken long t these items l = ap (λ (b : Bool). length ((if b then these else []) ++ items)) (le-leb long t l) ∙ length-append these items
-
 all_taken : (shape : Shape) (c : Count) (takes : List Take) (t : ℕ) → events_in (take_phrases shape c takes) ≤ t → c.number + length (items_taken shape c takes t) ≡ taken_in c.number takes
-all_taken shape c [] t l = omega arith
-all_taken shape c (Item seen items ∷ takes) t l =
-    let x : Take = Item seen items in
-    let next : Count = count_after shape c x in
-    let long : ℕ = events_in (take_phrase shape c x) in
-    let both = length-append (take_phrase shape c x) (take_phrases shape next takes) in
-    omega (arith, past_is c.number items, some_taken long t items (items_taken shape next takes (t - long)) (omega (arith, l, both)), all_taken shape next takes (t - long) (omega (arith, l, both)))
-all_taken shape c (ItemAfterClose seen again items ∷ takes) t l =
-    let x : Take = ItemAfterClose seen again items in
-    let next : Count = count_after shape c x in
-    let long : ℕ = events_in (take_phrase shape c x) in
-    let both = length-append (take_phrase shape c x) (take_phrases shape next takes) in
-    omega (arith, past_is c.number items, some_taken long t items (items_taken shape next takes (t - long)) (omega (arith, l, both)), all_taken shape next takes (t - long) (omega (arith, l, both)))
-all_taken shape c (Empty seen ∷ takes) t l =
-    let x : Take = Empty seen in
-    let long : ℕ = events_in (take_phrase shape c x) in
-    let both = length-append (take_phrase shape c x) (take_phrases shape c takes) in
-    all_taken shape (count_after shape c x) takes (t - long) (omega (arith, l, both))
+all_taken shape c takes t l = omega (arith, all_are c.number takes, ap length (taken_all shape c takes t l))
 
 module _ (shape : Shape) (h : List Event) (puts : Puts) (takes : Takes) (run : IsRun shape h puts takes) (law : LawOfSpans shape h puts takes) where
   abbrev xs : List Op
   xs = put_turns shape first_count 0 puts.puts puts.closes (length (subhistory P h))
 
-  abbrev ys : List TakeOp
+  abbrev ys : List Op
   ys = take_turns h shape first_count 0 takes.takes takes.end (length (subhistory C h))
 
   abbrev stored : ℕ
@@ -117,36 +96,17 @@ module _ (shape : Shape) (h : List Event) (puts : Puts) (takes : Takes) (run : I
       let u : ℕ = t + length h in
       let ended : events_in (take_program shape takes) ≤ clock C h t = omega (arith, l) in
       let now = law.closed t t (tells, ended) (omega arith) in
-      let (put, taken', closes, behind) = law.closed t u (tells, ended) (omega arith) in
       let last : clock P h u ≡ length (subhistory P h) = omega (arith, clock_within P h u, clock_rises P h (length h) u (omega arith), clock_end P h) in
-      let fewer : events_in (take_phrases shape first_count takes.takes) ≤ clock C h u =
-      omega (arith, ended, clock_rises C h t u (omega arith), length-append (take_phrases shape first_count takes.takes) (end_phrase takes.end)) in (
-        now.3,
-        omega (
-          arith,
-          all_taken shape first_count takes.takes (clock C h u) fewer,
-          ap length taken',
-          ap length put,
-          ap (λ j. length (items_put shape first_count puts.puts j)) last,
-          stored_is,
-        ),
-        closes,
-      )
+      grind (arith, length-append, all_taken, stored_is)
 
-  takes_numbered : TakesNumbered taken 0 ys
-  takes_numbered =
-      let whole : length (subhistory C h) - 0 ≡ length (subhistory C h) = omega arith in
-      take_turns-numbered h shape first_count 0 takes.takes takes.end (length (subhistory C h)) taken (omega (arith, ap (taken_begun shape first_count takes.takes) whole))
+  takes_numbered : Numbered taken 0 ys
+  takes_numbered = grind (arith, take_turns-numbered)
 
-  puts_numbered : PutsNumbered stored 0 xs
-  puts_numbered =
-      let whole : length (subhistory P h) - 0 ≡ length (subhistory P h) = omega arith in
-      put_turns-numbered shape first_count 0 puts.puts puts.closes (length (subhistory P h)) stored (omega (arith, ap (counts_begun (put_spans shape puts)) whole))
+  puts_numbered : Numbered stored 0 xs
+  puts_numbered = grind (arith, put_turns-numbered)
 
-  items_are : items_put_by xs ≡ items_put shape first_count puts.puts (length (subhistory P h))
-  items_are =
-      let whole : length (subhistory P h) - 0 ≡ length (subhistory P h) = omega arith in
-      put_turns-items shape first_count 0 puts.puts puts.closes (length (subhistory P h)) ∙ ap (items_put shape first_count puts.puts) whole
+  items_are : items_by xs ≡ items_put shape first_count puts.puts (length (subhistory P h))
+  items_are = grind (arith, put_turns-items)
 
   ordered : Ordered h (capacity_of shape) (queue [] false) xs ys
   ordered =
@@ -178,13 +138,4 @@ module _ (shape : Shape) (h : List Event) (puts : Puts) (takes : Takes) (run : I
       })
 
   pub linearizable : IsLinearizableRun shape h puts takes
-  linearizable =
-      let r = ordered in (
-        r.order,
-        record {
-          producer = r.producer ∙ put_turns-ops shape first_count 0 puts.puts puts.closes (length (subhistory P h));
-          consumer = r.consumer ∙ take_turns-ops h shape first_count 0 takes.takes takes.end (length (subhistory C h));
-          legal = r.legal;
-          keeps_time = keeps_time h r.order r.timely;
-        },
-      )
+  linearizable = grind (arith, ordered, put_turns-ops, take_turns-ops, keeps_time)

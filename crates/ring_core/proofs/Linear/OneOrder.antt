@@ -1,6 +1,7 @@
 -- The operations of two sides have an order that is that of a queue and respects the time of the calls: each operation of the
 -- consumer comes after those of the producer that must precede it, or precede an earlier one of the consumer, and after no others.
 use Rattle.std.proofs.Common.{◌≡◌, ◌⊎◌, inl, inr, ℕ, suc, ◌+◌, ◌<◌, ◌≤◌, Bool, true, false, List, [], ◌∷◌, ◌++◌, length, refl, sym, ap, subst, ◌∙◌, arith, length-append, append_assoc}
+use Rattle.std.specs.Prelude.{map}
 use Rattle.bits_core.specs.declared.events.Side.TheVariants.{P, C}
 use Rattle.bits_core.specs.declared.events.Event.{Event}
 use Rattle.bits_core.specs.Made.{clock}
@@ -8,25 +9,19 @@ use Rattle.std.proofs.lemmas.Bool.{false≢true}
 use Rattle.queue_calls.specs.Queue.{Queue, queue, exactly, Step, IsLegal}
 use Rattle.ring_core.specs.Linear.{TimedOperation, done_by, of_side, EndsBefore}
 use Rattle.ring_core.proofs.Readings.Cuts.{at_most_or_above}
-use Rattle.ring_core.proofs.Linear.Turns.{In, Kind, Moves, Misses, Ends, IsMove, IsMiss, IsEnd, Op, TakeOp, but_place, put_op, take_op, put_does, take_does, Tallies, PutFact, TakeFact, GoesTo, TakesTo, goes_to_itself, Needs, Must, May, NoMust, find_must, may}
+use Rattle.ring_core.proofs.Linear.Turns.{In, Kind, Moves, Misses, Ends, IsMove, IsMiss, IsEnd, Op, put_op, take_op, put_does, take_does, Tallies, PutFact, TakeFact, GoesTo, goes_to_itself, Needs, Must, May, NoMust, find_must, may}
 
 -- the operations of each side
 abbrev pub put_ops : List Op → List TimedOperation
-put_ops [] = []
-put_ops (x ∷ xs) = put_op x ∷ put_ops xs
+put_ops = map put_op
 
-abbrev pub take_ops : List TakeOp → List TimedOperation
-take_ops [] = []
-take_ops (y ∷ ys) = take_op y ∷ take_ops ys
+abbrev pub take_ops : List Op → List TimedOperation
+take_ops = map take_op
 
--- each comes before those after it, and the close is the last
-abbrev pub PutsSorted : List Op → Type 0
-PutsSorted [] = Unit {0}
-PutsSorted (x ∷ xs) = ((x' : Op) → In x' xs → GoesTo x x' × ¬ IsEnd x.kind) × PutsSorted xs
-
-abbrev pub TakesSorted : List TakeOp → Type 0
-TakesSorted [] = Unit {0}
-TakesSorted (y ∷ ys) = ((y' : TakeOp) → In y' ys → TakesTo y y') × TakesSorted ys
+-- each comes before those after it, and one that ends is the last
+abbrev pub Sorted : List Op → Type 0
+Sorted [] = Unit {0}
+Sorted (x ∷ xs) = ((x' : Op) → In x' xs → GoesTo x x' × ¬ IsEnd x.kind) × Sorted xs
 
 -- the numbers grow by one with each item, from the second number to the first
 abbrev pub next_number : ℕ → Kind → ℕ
@@ -34,13 +29,9 @@ next_number n (Moves item) = suc n
 next_number n Misses = n
 next_number n Ends = n
 
-abbrev pub PutsNumbered : ℕ → ℕ → List Op → Type 0
-PutsNumbered last n [] = n ≡ last
-PutsNumbered last n (x ∷ xs) = (x.number ≡ n) × PutsNumbered last (next_number n x.kind) xs
-
-abbrev pub TakesNumbered : ℕ → ℕ → List TakeOp → Type 0
-TakesNumbered last k [] = k ≡ last
-TakesNumbered last k (y ∷ ys) = (y.number ≡ k) × TakesNumbered last (next_number k y.kind) ys
+abbrev pub Numbered : ℕ → ℕ → List Op → Type 0
+Numbered last n [] = n ≡ last
+Numbered last n (x ∷ xs) = (x.number ≡ n) × Numbered last (next_number n x.kind) xs
 
 -- the items that are put, and taken
 abbrev pub with_item : Kind → List ℕ → List ℕ
@@ -48,13 +39,9 @@ with_item (Moves item) items = item ∷ items
 with_item Misses items = items
 with_item Ends items = items
 
-abbrev pub items_put_by : List Op → List ℕ
-items_put_by [] = []
-items_put_by (x ∷ xs) = with_item x.kind (items_put_by xs)
-
-abbrev pub items_taken_by : List TakeOp → List ℕ
-items_taken_by [] = []
-items_taken_by (y ∷ ys) = with_item y.kind (items_taken_by ys)
+abbrev pub items_by : List Op → List ℕ
+items_by [] = []
+items_by (x ∷ xs) = with_item x.kind (items_by xs)
 
 -- whether the queue is closed after these
 abbrev pub closed_by : Bool → Kind → Bool
@@ -72,11 +59,11 @@ IsTimely h [] = Unit {0}
 IsTimely h (o ∷ order) = ((o' : TimedOperation) → In o' order → ¬ EndsBefore h o' o) × IsTimely h order
 
 -- an operation of one of the two lists
-abbrev pub IsOf : List Op → List TakeOp → TimedOperation → Type 0
-IsOf xs ys o = ((x : Op) × In x xs × (o ≡ put_op x)) ⊎ ((y : TakeOp) × In y ys × (o ≡ take_op y))
+abbrev pub IsOf : List Op → List Op → TimedOperation → Type 0
+IsOf xs ys o = ((x : Op) × In x xs × (o ≡ put_op x)) ⊎ ((y : Op) × In y ys × (o ≡ take_op y))
 
 -- an order of the operations to come, starting with this queue
-pub record Ordered (h : List Event) (capacity : ℕ) (q : Queue) (xs : List Op) (ys : List TakeOp) : Type 0 where
+pub record Ordered (h : List Event) (capacity : ℕ) (q : Queue) (xs : List Op) (ys : List Op) : Type 0 where
   pub order : List TimedOperation
   pub producer : of_side P order ≡ put_ops xs
   pub consumer : of_side C order ≡ take_ops ys
@@ -85,30 +72,24 @@ pub record Ordered (h : List Event) (capacity : ℕ) (q : Queue) (xs : List Op) 
   pub members : (o : TimedOperation) → In o order → IsOf xs ys o
 
 -- What holds when these operations are to come, this many items were taken, and these are in the queue.
-pub record Standing (capacity stored taken : ℕ) (IsPut : Op → Type 0) (IsTake : TakeOp → Type 0) (k : ℕ) (items : List ℕ) (closed : Bool) (xs : List Op) (ys : List TakeOp) : Type 0 where
+pub record Standing (capacity stored taken : ℕ) (IsPut : Op → Type 0) (IsTake : Op → Type 0) (k : ℕ) (items : List ℕ) (closed : Bool) (xs : List Op) (ys : List Op) : Type 0 where
   pub fits : length items ≤ capacity
-  pub puts_numbered : PutsNumbered stored (k + length items) xs
-  pub takes_numbered : TakesNumbered taken k ys
-  pub puts_sorted : PutsSorted xs
-  pub takes_sorted : TakesSorted ys
+  pub puts_numbered : Numbered stored (k + length items) xs
+  pub takes_numbered : Numbered taken k ys
+  pub puts_sorted : Sorted xs
+  pub takes_sorted : Sorted ys
   pub puts : (x : Op) → In x xs → IsPut x
-  pub takes : (y : TakeOp) → In y ys → IsTake y
+  pub takes : (y : Op) → In y ys → IsTake y
   pub fulls : (x : Op) → In x xs → IsMiss x.kind → k + capacity ≤ x.number
-  pub empties : (y : TakeOp) → In y ys → IsMiss y.kind → (k + length items ≤ y.number) × (closed ≡ false)
+  pub empties : (y : Op) → In y ys → IsMiss y.kind → (k + length items ≤ y.number) × (closed ≡ false)
   pub opened : (x : Op) → In x xs → closed ≡ false
-  pub ends : (y : TakeOp) → In y ys → IsEnd y.kind → IsClosedBy closed xs
-  pub same : (rest : List ℕ) × (items ++ items_put_by xs ≡ items_taken_by ys ++ rest)
+  pub ends : (y : Op) → In y ys → IsEnd y.kind → IsClosedBy closed xs
+  pub same : (rest : List ℕ) × (items ++ items_by xs ≡ items_by ys ++ rest)
 
 next_up : (n : ℕ) (kind : Kind) → n ≤ next_number n kind
-next_up n (Moves item) = omega arith
-next_up n Misses = omega arith
-next_up n Ends = omega arith
+next_up n kind = grind arith
 
-puts_up : (last n : ℕ) (xs : List Op) → PutsNumbered last n xs → n ≤ last
-puts_up last n [] e = omega (arith, e)
-puts_up last n (x ∷ xs) (e, r) = omega (arith, next_up n x.kind, puts_up last (next_number n x.kind) xs r)
-
-takes_up : (last k : ℕ) (ys : List TakeOp) → TakesNumbered last k ys → k ≤ last
+takes_up : (last k : ℕ) (ys : List Op) → Numbered last k ys → k ≤ last
 takes_up last k [] e = omega (arith, e)
 takes_up last k (y ∷ ys) (e, r) = omega (arith, next_up k y.kind, takes_up last (next_number k y.kind) ys r)
 
@@ -116,26 +97,22 @@ takes_up last k (y ∷ ys) (e, r) = omega (arith, next_up k y.kind, takes_up las
 abbrev NextPut : ℕ → List Op → Type 0
 NextPut n xs = (x : Op) × In x xs × IsMove x.kind × (x.number ≡ n)
 
-next_of : (last n : ℕ) (xs : List Op) → PutsNumbered last n xs → n < last → NextPut n xs
+next_of : (last n : ℕ) (xs : List Op) → Numbered last n xs → n < last → NextPut n xs
 next_of last n [] e l = absurd (omega (arith, e, l))
 next_of last n (x ∷ xs) (e, r) l = by_kind x.kind refl r (λ m. next_of last m xs)
   where
     by_kind :
-        (kind : Kind) → x.kind ≡ kind → PutsNumbered last (next_number n kind) xs →
-        ((m : ℕ) → PutsNumbered last m xs → m < last → NextPut m xs) → NextPut n (x ∷ xs)
+        (kind : Kind) → x.kind ≡ kind → Numbered last (next_number n kind) xs →
+        ((m : ℕ) → Numbered last m xs → m < last → NextPut m xs) → NextPut n (x ∷ xs)
     by_kind (Moves item) f r next = (x, inl refl, subst IsMove (sym f) tt, e)
     by_kind Misses f r next = let (x', i, s, g) = next n r l in (x', inr i, s, g)
     by_kind Ends f r next = let (x', i, s, g) = next n r l in (x', inr i, s, g)
 
 needs_enqueue : (capacity k n item : ℕ) (x : Kind) → IsMove x → n ≤ k → Needs capacity (Moves item) k x n
-needs_enqueue capacity k n item (Moves item') s l = l
-needs_enqueue capacity k n item Misses s l = absurd s
-needs_enqueue capacity k n item Ends s l = absurd s
+needs_enqueue capacity k n item x s l = grind arith
 
 needs_full : (capacity k n item : ℕ) (x : Kind) → IsMiss x → n ≤ k + capacity → Needs capacity (Moves item) k x n
-needs_full capacity k n item (Moves item') s l = absurd s
-needs_full capacity k n item Misses s l = l
-needs_full capacity k n item Ends s l = absurd s
+needs_full capacity k n item x s l = grind arith
 
 module _ (h : List Event) (capacity events stored taken : ℕ) (puts_begun puts_ended takes_begun takes_ended : ℕ → ℕ)
     (tallies : Tallies h capacity puts_begun puts_ended takes_begun takes_ended)
@@ -143,19 +120,19 @@ module _ (h : List Event) (capacity events stored taken : ℕ) (puts_begun puts_
   abbrev IsPut : Op → Type 0
   IsPut x = PutFact h capacity events puts_begun puts_ended takes_ended x × (IsMove x.kind → x.number < stored)
 
-  abbrev IsTake : TakeOp → Type 0
+  abbrev IsTake : Op → Type 0
   IsTake y = TakeFact h events stored puts_ended takes_begun takes_ended y
 
-  abbrev Stands : ℕ → List ℕ → Bool → List Op → List TakeOp → Type 0
+  abbrev Stands : ℕ → List ℕ → Bool → List Op → List Op → Type 0
   Stands k items closed xs ys = Standing capacity stored taken IsPut IsTake k items closed xs ys
 
-  abbrev Order : List ℕ → Bool → List Op → List TakeOp → Type 0
+  abbrev Order : List ℕ → Bool → List Op → List Op → Type 0
   Order items closed xs ys = Ordered h capacity (queue items closed) xs ys
 
   -- an operation of the producer first
   put_first :
-      (q after : Queue) (x : Op) (xs : List Op) (ys : List TakeOp) → Step (exactly capacity) q (put_does x.kind) after → IsPut x →
-      ((x' : Op) → In x' xs → IsPut x' × GoesTo x x') → ((y : TakeOp) → In y ys → May h capacity x y) →
+      (q after : Queue) (x : Op) (xs : List Op) (ys : List Op) → Step (exactly capacity) q (put_does x.kind) after → IsPut x →
+      ((x' : Op) → In x' xs → IsPut x' × GoesTo x x') → ((y : Op) → In y ys → May h capacity x y) →
       Ordered h capacity after xs ys → Ordered h capacity q (x ∷ xs) ys
   put_first q after x xs ys step px behind mays r = record {
     order = put_op x ∷ r.order;
@@ -176,17 +153,15 @@ module _ (h : List Event) (capacity events stored taken : ℕ) (puts_begun puts_
   }
     where
       by_put : (o : TimedOperation) (t : ℕ) (x' : Op) → o ≡ put_op x' → IsPut x' × GoesTo x x' → o.stop ≤ clock o.side h t → clock P h t ≤ x.start → ⊥
-      by_put o t x' e (px', to) a b =
-          let a' : x'.stop ≤ clock P h t = subst (λ (z : TimedOperation). z.stop ≤ clock z.side h t) e a in
-          omega (arith, a', b, px'.0.some, to.start)
+      by_put o t x' e (px', to) a b = grind arith
 
-      by_take : (o : TimedOperation) (t : ℕ) (y : TakeOp) → o ≡ take_op y → May h capacity x y → o.stop ≤ clock o.side h t → clock P h t ≤ x.start → ⊥
+      by_take : (o : TimedOperation) (t : ℕ) (y : Op) → o ≡ take_op y → May h capacity x y → o.stop ≤ clock o.side h t → clock P h t ≤ x.start → ⊥
       by_take o t y e m a b = m.time t (subst (λ (z : TimedOperation). z.stop ≤ clock z.side h t) e a) b
 
   -- an operation of the consumer first
   take_first :
-      (q after : Queue) (y : TakeOp) (xs : List Op) (ys : List TakeOp) → Step (exactly capacity) q (take_does y.kind) after → IsTake y →
-      ((y' : TakeOp) → In y' ys → IsTake y' × TakesTo y y') → NoMust h capacity xs y →
+      (q after : Queue) (y : Op) (xs : List Op) (ys : List Op) → Step (exactly capacity) q (take_does y.kind) after → IsTake y →
+      ((y' : Op) → In y' ys → IsTake y' × GoesTo y y') → NoMust h capacity xs y →
       Ordered h capacity after xs ys → Ordered h capacity q xs (y ∷ ys)
   take_first q after y xs ys step qy behind none r = record {
     order = take_op y ∷ r.order;
@@ -207,28 +182,24 @@ module _ (h : List Event) (capacity events stored taken : ℕ) (puts_begun puts_
   }
     where
       by_put : (o : TimedOperation) (t : ℕ) (x : Op) → o ≡ put_op x → ¬ Must h capacity x y → o.stop ≤ clock o.side h t → clock C h t ≤ y.start → ⊥
-      by_put o t x e not a b =
-          let a' : x.stop ≤ clock P h t = subst (λ (z : TimedOperation). z.stop ≤ clock z.side h t) e a in
-          not (inl (omega (arith, a', tallies.up_p t y.place (qy.last_place t b))))
+      by_put o t x e not a b = grind arith
 
-      by_take : (o : TimedOperation) (t : ℕ) (y' : TakeOp) → o ≡ take_op y' → IsTake y' × TakesTo y y' → o.stop ≤ clock o.side h t → clock C h t ≤ y.start → ⊥
-      by_take o t y' e (qy', to) a b =
-          let a' : y'.stop ≤ clock C h t = subst (λ (z : TimedOperation). z.stop ≤ clock z.side h t) e a in
-          omega (arith, a', b, qy'.some, to.start)
+      by_take : (o : TimedOperation) (t : ℕ) (y' : Op) → o ≡ take_op y' → IsTake y' × GoesTo y y' → o.stop ≤ clock o.side h t → clock C h t ≤ y.start → ⊥
+      by_take o t y' e (qy', to) a b = grind arith
 
   -- an operation of the producer that may precede all remaining ones of the consumer, if these items are in the queue after it
   put_on :
-      (x : Op) (xs : List Op) (ys : List TakeOp) (k : ℕ) (items items' : List ℕ) (closed closed' : Bool) → Stands k items closed (x ∷ xs) ys →
-      ((y : TakeOp) → In y ys → May h capacity x y) → Step (exactly capacity) (queue items closed) (put_does x.kind) (queue items' closed') →
+      (x : Op) (xs : List Op) (ys : List Op) (k : ℕ) (items items' : List ℕ) (closed closed' : Bool) → Stands k items closed (x ∷ xs) ys →
+      ((y : Op) → In y ys → May h capacity x y) → Step (exactly capacity) (queue items closed) (put_does x.kind) (queue items' closed') →
       length items' ≤ capacity → next_number (k + length items) x.kind ≡ k + length items' →
-      ((y : TakeOp) → In y ys → IsMiss y.kind → (k + length items' ≤ y.number) × (closed' ≡ false)) → ((x' : Op) → In x' xs → closed' ≡ false) →
-      ((y : TakeOp) → In y ys → IsEnd y.kind → IsClosedBy closed' xs) → (rest : List ℕ) × (items' ++ items_put_by xs ≡ items_taken_by ys ++ rest) →
+      ((y : Op) → In y ys → IsMiss y.kind → (k + length items' ≤ y.number) × (closed' ≡ false)) → ((x' : Op) → In x' xs → closed' ≡ false) →
+      ((y : Op) → In y ys → IsEnd y.kind → IsClosedBy closed' xs) → (rest : List ℕ) × (items' ++ items_by xs ≡ items_by ys ++ rest) →
       (Stands k items' closed' xs ys → Order items' closed' xs ys) → Order items closed (x ∷ xs) ys
   put_on x xs ys k items items' closed closed' r mays step fits number empties opened ends same next =
       put_first (queue items closed) (queue items' closed') x xs ys step (r.puts x (inl refl)) (λ x' i. (r.puts x' (inr i), (r.puts_sorted.0 x' i).0)) mays
       (next (record {
         fits = fits;
-        puts_numbered = subst (λ m. PutsNumbered stored m xs) number r.puts_numbered.1;
+        puts_numbered = subst (λ m. Numbered stored m xs) number r.puts_numbered.1;
         takes_numbered = r.takes_numbered;
         puts_sorted = r.puts_sorted.1;
         takes_sorted = r.takes_sorted;
@@ -242,69 +213,51 @@ module _ (h : List Event) (capacity events stored taken : ℕ) (puts_begun puts_
       }))
 
   put_step :
-      (n start stop : ℕ) (kind : Kind) (xs : List Op) (ys : List TakeOp) (k : ℕ) (items : List ℕ) (closed : Bool) →
-      Stands k items closed (record { number = n; kind = kind; start = start; stop = stop } ∷ xs) ys →
-      ((y : TakeOp) → In y ys → May h capacity (record { number = n; kind = kind; start = start; stop = stop }) y) →
+      (n start stop place : ℕ) (kind : Kind) (xs : List Op) (ys : List Op) (k : ℕ) (items : List ℕ) (closed : Bool) →
+      Stands k items closed (record { number = n; kind = kind; start = start; stop = stop; place = place } ∷ xs) ys →
+      ((y : Op) → In y ys → May h capacity (record { number = n; kind = kind; start = start; stop = stop; place = place }) y) →
       (IsMove kind → length items < capacity) →
       ((items' : List ℕ) (closed' : Bool) → Stands k items' closed' xs ys → Order items' closed' xs ys) →
-      Order items closed (record { number = n; kind = kind; start = start; stop = stop } ∷ xs) ys
-  put_step n start stop (Moves item) xs ys k items closed r mays room next =
-      let x : Op = record { number = n; kind = Moves item; start = start; stop = stop } in
+      Order items closed (record { number = n; kind = kind; start = start; stop = stop; place = place } ∷ xs) ys
+  put_step n start stop place (Moves item) xs ys k items closed r mays room next =
+      let x : Op = record { number = n; kind = Moves item; start = start; stop = stop; place = place } in
       let open_now : closed ≡ false = r.opened x (inl refl) in
       let long : length (items ++ item ∷ []) ≡ suc (length items) = omega (arith, length-append items (item ∷ [])) in
       let (rest, same) = r.same in
       put_on x xs ys k items (items ++ item ∷ []) closed false r mays (room tt, open_now, refl) (omega (arith, long, room tt)) (omega (arith, long))
       (λ y i e. (omega (arith, long, (mays y i).empty tt e, r.puts_numbered.0), refl)) (λ x' i. refl)
-      (λ y i e. subst (λ b. IsClosedBy b xs) open_now (r.ends y i e)) (rest, append_assoc items (item ∷ []) (items_put_by xs) ∙ same)
+      (λ y i e. subst (λ b. IsClosedBy b xs) open_now (r.ends y i e)) (rest, append_assoc items (item ∷ []) (items_by xs) ∙ same)
       (next (items ++ item ∷ []) false)
-  put_step n start stop Misses xs ys k items closed r mays room next =
-      let x : Op = record { number = n; kind = Misses; start = start; stop = stop } in
+  put_step n start stop place Misses xs ys k items closed r mays room next =
+      let x : Op = record { number = n; kind = Misses; start = start; stop = stop; place = place } in
       put_on x xs ys k items items closed closed r mays (omega (arith, r.fits, r.fulls x (inl refl) tt, r.puts_numbered.0), r.opened x (inl refl), refl) r.fits refl
       r.empties (λ x' i. r.opened x' (inr i)) r.ends r.same (next items closed)
-  put_step n start stop Ends xs ys k items closed r mays room next =
-      let x : Op = record { number = n; kind = Ends; start = start; stop = stop } in
+  put_step n start stop place Ends xs ys k items closed r mays room next =
+      let x : Op = record { number = n; kind = Ends; start = start; stop = stop; place = place } in
       put_on x xs ys k items items closed true r mays refl r.fits refl (λ y i e. absurd ((mays y i).opened tt e)) (λ x' i. absurd ((r.puts_sorted.0 x' i).1 tt))
       r.ends r.same (next items true)
 
   -- an operation of the consumer that none of the producer's remaining ones must precede, if these items are in the queue after it
   take_on :
-      (y : TakeOp) (xs : List Op) (ys : List TakeOp) (k : ℕ) (items items' : List ℕ) (closed : Bool) → Stands k items closed xs (y ∷ ys) → NoMust h capacity xs y →
+      (y : Op) (xs : List Op) (ys : List Op) (k : ℕ) (items items' : List ℕ) (closed : Bool) → Stands k items closed xs (y ∷ ys) → NoMust h capacity xs y →
       Step (exactly capacity) (queue items closed) (take_does y.kind) (queue items' closed) →
       length items' ≤ capacity → k + length items ≡ next_number k y.kind + length items' →
-      ((x : Op) → In x xs → IsMiss x.kind → next_number k y.kind + capacity ≤ x.number) → (rest : List ℕ) × (items' ++ items_put_by xs ≡ items_taken_by ys ++ rest) →
+      ((x : Op) → In x xs → IsMiss x.kind → next_number k y.kind + capacity ≤ x.number) → (rest : List ℕ) × (items' ++ items_by xs ≡ items_by ys ++ rest) →
       (Stands (next_number k y.kind) items' closed xs ys → Order items' closed xs ys) → Order items closed xs (y ∷ ys)
-  take_on y xs ys k items items' closed r none step fits number fulls same next =
-      take_first (queue items closed) (queue items' closed) y xs ys step (r.takes y (inl refl)) (λ y' i. (r.takes y' (inr i), r.takes_sorted.0 y' i)) none
-      (next (record {
-        fits = fits;
-        puts_numbered = subst (λ m. PutsNumbered stored m xs) number r.puts_numbered;
-        takes_numbered = r.takes_numbered.1;
-        puts_sorted = r.puts_sorted;
-        takes_sorted = r.takes_sorted.1;
-        puts = r.puts;
-        takes = λ y' i. r.takes y' (inr i);
-        fulls = fulls;
-        empties = λ y' i s. (omega (arith, number, (r.empties y' (inr i) s).0), (r.empties y' (inr i) s).1);
-        opened = r.opened;
-        ends = λ y' i. r.ends y' (inr i);
-        same = same;
-      }))
+  take_on y xs ys k items items' closed r none step fits number fulls same next = grind (arith, take_first)
 
   take_step :
-      (n start stop place : ℕ) (kind : Kind) (xs : List Op) (ys : List TakeOp) (k : ℕ) (items : List ℕ) (closed : Bool) →
+      (n start stop place : ℕ) (kind : Kind) (xs : List Op) (ys : List Op) (k : ℕ) (items : List ℕ) (closed : Bool) →
       Stands k items closed xs (record { number = n; kind = kind; start = start; stop = stop; place = place } ∷ ys) →
       NoMust h capacity xs (record { number = n; kind = kind; start = start; stop = stop; place = place }) →
       ((k' : ℕ) (items' : List ℕ) (closed' : Bool) → Stands k' items' closed' xs ys → Order items' closed' xs ys) →
       Order items closed xs (record { number = n; kind = kind; start = start; stop = stop; place = place } ∷ ys)
-  take_step n start stop place (Moves item) xs ys k [] closed r none next =
-      let up : suc k ≤ taken = takes_up taken (suc k) ys r.takes_numbered.1 in
-      let (x, i, s, e) = next_of stored (k + 0) xs r.puts_numbered (omega (arith, up, more_stored)) in
-      absurd (none x i (inr (needs_enqueue capacity n x.number item x.kind s (omega (arith, e, r.takes_numbered.0)))))
+  take_step n start stop place (Moves item) xs ys k [] closed r none next = grind (arith, takes_up, next_of, needs_enqueue)
   take_step n start stop place (Moves item) xs ys k (e ∷ items) closed r none next =
-      let y : TakeOp = record { number = n; kind = Moves item; start = start; stop = stop; place = place } in
+      let y : Op = record { number = n; kind = Moves item; start = start; stop = stop; place = place } in
       let (rest, same) = r.same in
       let first : e ≡ item = cc in
-      let others : items ++ items_put_by xs ≡ items_taken_by ys ++ rest = cc in
+      let others : items ++ items_by xs ≡ items_by ys ++ rest = cc in
       take_on y xs ys k (e ∷ items) items closed r none (ap (λ v. v ∷ items) first, refl) (omega (arith, r.fits)) (omega arith)
       (λ x i s. elim (at_most_or_above x.number (n + capacity)) [
         | inl l ↦ absurd (none x i (inr (needs_full capacity n x.number item x.kind s l)))
@@ -312,25 +265,25 @@ module _ (h : List Event) (capacity events stored taken : ℕ) (puts_begun puts_
       ])
       (rest, others) (next (suc k) items closed)
   take_step n start stop place Misses xs ys k (e ∷ items) closed r none next =
-      let y : TakeOp = record { number = n; kind = Misses; start = start; stop = stop; place = place } in
+      let y : Op = record { number = n; kind = Misses; start = start; stop = stop; place = place } in
       absurd (omega (arith, (r.empties y (inl refl) tt).0, r.takes_numbered.0))
   take_step n start stop place Misses xs ys k [] closed r none next =
-      let y : TakeOp = record { number = n; kind = Misses; start = start; stop = stop; place = place } in
+      let y : Op = record { number = n; kind = Misses; start = start; stop = stop; place = place } in
       take_on y xs ys k [] [] closed r none (omega arith, (λ drained. false≢true (sym (r.empties y (inl refl) tt).1 ∙ drained.1)), refl) r.fits refl r.fulls r.same
       (next k [] closed)
   take_step n start stop place Ends (x ∷ xs) ys k items closed r none next = absurd (none x (inl refl) (inr tt))
   take_step n start stop place Ends [] ys k (e ∷ items) closed r none next =
-      let y : TakeOp = record { number = n; kind = Ends; start = start; stop = stop; place = place } in
+      let y : Op = record { number = n; kind = Ends; start = start; stop = stop; place = place } in
       absurd (omega (arith, r.puts_numbered, r.takes_numbered.0, (r.takes y (inl refl)).all tt))
   take_step n start stop place Ends [] ys k [] closed r none next =
-      let y : TakeOp = record { number = n; kind = Ends; start = start; stop = stop; place = place } in
+      let y : Op = record { number = n; kind = Ends; start = start; stop = stop; place = place } in
       take_on y [] ys k [] [] closed r none ((refl, r.ends y (inl refl) tt), refl) r.fits refl r.fulls r.same (next k [] closed)
 
   -- what must precede the next operation of the consumer comes first
-  abbrev Goes : List Op → List TakeOp → Type 0
+  abbrev Goes : List Op → List Op → Type 0
   Goes xs ys = (k : ℕ) (items : List ℕ) (closed : Bool) → Stands k items closed xs ys → Order items closed xs ys
 
-  walk : (y : TakeOp) (ys : List TakeOp) → ((xs : List Op) → Goes xs ys) → (xs : List Op) → Goes xs (y ∷ ys)
+  walk : (y : Op) (ys : List Op) → ((xs : List Op) → Goes xs ys) → (xs : List Op) → Goes xs (y ∷ ys)
   walk y ys next [] k items closed r = take_step y.number y.start y.stop y.place y.kind [] ys k items closed r (λ x i m. absurd i) (next [])
   walk y ys next (x ∷ xs) k items closed r = elim (find_must h capacity (x ∷ xs) y) [
     | inr none ↦ take_step y.number y.start y.stop y.place y.kind (x ∷ xs) ys k items closed r none (next (x ∷ xs))
@@ -341,17 +294,17 @@ module _ (h : List Event) (capacity events stored taken : ℕ) (puts_begun puts_
       put_to x' (inl e) = subst (λ z. GoesTo x z) (sym e) (goes_to_itself x)
       put_to x' (inr i) = (r.puts_sorted.0 x' i).0
 
-      take_to : (y' : TakeOp) → In y' (y ∷ ys) → TakesTo y y'
-      take_to y' (inl e) = subst (λ z. TakesTo y z) (sym e) (goes_to_itself (but_place y))
-      take_to y' (inr i) = r.takes_sorted.0 y' i
+      take_to : (y' : Op) → In y' (y ∷ ys) → GoesTo y y'
+      take_to y' (inl e) = subst (λ z. GoesTo y z) (sym e) (goes_to_itself y)
+      take_to y' (inr i) = (r.takes_sorted.0 y' i).0
 
       put_now : (x' : Op) → In x' (x ∷ xs) → Must h capacity x' y → Goes xs (y ∷ ys) → Order items closed (x ∷ xs) (y ∷ ys)
       put_now x' i m go =
           let px = r.puts x (inl refl) in
-          let mays : (y' : TakeOp) → In y' (y ∷ ys) → May h capacity x y' =
+          let mays : (y' : Op) → In y' (y ∷ ys) → May h capacity x y' =
           λ y' j. may h capacity events stored puts_begun puts_ended takes_begun takes_ended tallies x x' y y' px.0 (r.puts x' i).0 (r.takes y (inl refl)) (r.takes y' j)
           (put_to x' i) (take_to y' j) px.1 m in
-          put_step x.number x.start x.stop x.kind xs (y ∷ ys) k items closed r mays
+          put_step x.number x.start x.stop x.place x.kind xs (y ∷ ys) k items closed r mays
           (λ s. omega (arith, (mays y (inl refl)).room s, r.puts_numbered.0, r.takes_numbered.0)) (go k)
 
   -- after all operations of the consumer come the producer's
@@ -361,9 +314,9 @@ module _ (h : List Event) (capacity events stored taken : ℕ) (puts_begun puts_
     where
       step : Goes xs [] → Order items closed (x ∷ xs) []
       step go =
-          put_step x.number x.start x.stop x.kind xs [] k items closed r (λ y i. absurd i)
+          put_step x.number x.start x.stop x.place x.kind xs [] k items closed r (λ y i. absurd i)
           (λ s. omega (arith, (r.puts x (inl refl)).1 s, r.puts_numbered.0, r.takes_numbered, within)) (go k)
 
-  pub goes : (ys : List TakeOp) (xs : List Op) → Goes xs ys
+  pub goes : (ys : List Op) (xs : List Op) → Goes xs ys
   goes [] xs = puts_alone xs
   goes (y ∷ ys) xs = walk y ys (goes ys) xs

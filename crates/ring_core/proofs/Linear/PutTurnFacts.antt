@@ -1,5 +1,5 @@
 -- The properties of the operations of the producer's calls in a run.
-use Rattle.std.proofs.Common.{◌≡◌, inl, inr, ℕ, suc, ◌+◌, ◌-◌, ◌<◌, ◌≤◌, Bool, true, false, nat_lt, nat_le, if◌then◌else◌, List, [], ◌∷◌, ◌++◌, length, refl, sym, ap, subst, ◌∙◌, arith, length-append}
+use Rattle.std.proofs.Common.{◌≡◌, inl, inr, ℕ, suc, ◌+◌, ◌-◌, ◌<◌, ◌≤◌, Bool, true, false, nat_lt, nat_le, if◌then◌else◌, List, [], ◌∷◌, ◌++◌, length, refl, sym, ap, subst, arith, length-append}
 use Rattle.std.proofs.lemmas.Bool.{ltb-true, ltb-false, leb-true, lt-ltb}
 use Rattle.bits_core.specs.declared.events.Side.{Side}
 use Rattle.bits_core.specs.declared.events.Side.TheVariants.{P, C}
@@ -8,7 +8,7 @@ use Rattle.bits_core.specs.declared.shapes.Shape.{Shape}
 use Rattle.bits_core.specs.Shape.{batch_of, capacity_of, take_batch_of}
 use Rattle.bits_core.specs.Made.{subhistory, clock, place_of, IsPlaceOf}
 use Rattle.register_core.specs.ScanState.{scan_phrase, row_read_by}
-use Rattle.ring_core.specs.Counts.{number_past, Count, first_count, batch_phrase}
+use Rattle.ring_core.specs.Counts.{Count, first_count, batch_phrase}
 use Rattle.ring_core.specs.Puts.{Put, Stored, Full, Puts, stored_after, words_phrase, put_phrase, put_phrases}
 use Rattle.ring_core.specs.Takes.{Takes}
 use Rattle.ring_core.specs.Items.{events_in, items_put}
@@ -22,8 +22,8 @@ use Rattle.ring_core.proofs.OverSpans.CallSpans.{three, stands_at}
 use Rattle.ring_core.proofs.CallCounts.{ended_counts, lt-behind}
 use Rattle.ring_core.proofs.OwnEvents.{clock_rises}
 use Rattle.ring_core.proofs.Linear.Turns.{In, Misses, Ends, IsMove, Op, PutFact, move_not_miss, move_not_end}
-use Rattle.ring_core.proofs.Linear.OneOrder.{PutsNumbered, items_put_by, IsClosedBy}
-use Rattle.ring_core.proofs.Linear.PutTurns.{if_yes, if_no, in_append, in_if, begun_past_count, begun_before_count, begun_of_none, begun_counts, put_turn, enqueue_turns, put_long, until_count, put_turns, put_turns-none, put_some, before_put_ends, enqueue_of}
+use Rattle.ring_core.proofs.Linear.OneOrder.{Numbered, items_by, IsClosedBy}
+use Rattle.ring_core.proofs.Linear.PutTurns.{if_yes, if_no, in_append, in_if, begun_past_count, begun_before_count, begun_of_none, begun_counts, put_turn, enqueue_turns, put_long, until_count, put_turns, put_turns-none, put_some, before_put_ends, move_of, move_so, moves_numbered}
 use Rattle.bits_core.proofs.LawLemmas.{subhistory_has_place}
 use Rattle.bits_core.proofs.OwnEvents.{by_case}
 
@@ -43,18 +43,10 @@ until_is shape c seen items = omega (arith, length-append (scan_phrase (row_read
 
 -- ---- their numbers
 
-enqueues_numbered :
-    (last n start stop : ℕ) (items : List ℕ) (xs : List Op) → PutsNumbered last (number_past n items) xs → PutsNumbered last n (enqueue_turns n start stop items ++ xs)
-enqueues_numbered last n start stop [] xs r = r
-enqueues_numbered last n start stop (item ∷ items) xs r = (refl, enqueues_numbered last (suc n) start stop items xs r)
-
 pub put_turns-numbered :
     (shape : Shape) (c : Count) (start : ℕ) (puts : List Put) (closes : Bool) (t last : ℕ) →
-    c.number + counts_begun (spans P shape c (put_looks puts)) (t - start) ≡ last → PutsNumbered last c.number (put_turns shape c start puts closes t)
-put_turns-numbered shape c start [] false t last e = omega (arith, e)
-put_turns-numbered shape c start [] true t last e = by_case (nat_lt start t)
-    (λ f. subst (PutsNumbered last c.number) (sym (if_yes (nat_lt start t) (put_turn c.number Ends start (start + 2) ∷ []) f)) (refl, omega (arith, e)))
-    (λ f. subst (PutsNumbered last c.number) (sym (if_no (nat_lt start t) (put_turn c.number Ends start (start + 2) ∷ []) f)) (omega (arith, e)))
+    c.number + counts_begun (spans P shape c (put_looks puts)) (t - start) ≡ last → Numbered last c.number (put_turns shape c start puts closes t)
+put_turns-numbered shape c start [] closes t last e = grind (arith, if_yes, if_no)
 put_turns-numbered shape c start (Stored seen items ∷ puts) closes t last e =
     let stop : ℕ = start + put_long shape c (Stored seen items) in
     let next : Count = stored_after shape c (Stored seen items) in
@@ -69,62 +61,46 @@ put_turns-numbered shape c start (Stored seen items ∷ puts) closes t last e =
     (let past_count = begun_past_count y ys (t - start) (omega (arith, ltb-true (start + until_count shape c seen items) t f, front)) in
     let later : t - start - whole y ≡ t - stop = omega (arith, long) in
     let e' : next.number + counts_begun ys (t - stop) ≡ last = omega (arith, e, past_count, past_is c.number items, ap (counts_begun ys) later) in
-    subst (λ l. PutsNumbered last c.number (l ++ rest)) (sym (if_yes test (enqueue_turns c.number start stop items) f))
-    (enqueues_numbered last c.number start stop items rest (put_turns-numbered shape next stop puts closes t last e'))))
+    subst (λ l. Numbered last c.number (l ++ rest)) (sym (if_yes test (enqueue_turns c.number start stop items) f))
+    (moves_numbered 0 last c.number start stop items rest (put_turns-numbered shape next stop puts closes t last e'))))
     (λ f.
     (let early = ltb-false (start + until_count shape c seen items) t f in
     let none : rest ≡ [] = put_turns-none shape next stop puts closes t (omega (arith, early, before_put_ends shape c seen items)) in
     let e' : c.number ≡ last = omega (arith, e, begun_before_count y ys (t - start) (omega (arith, early, front))) in
-    subst (λ l. PutsNumbered last c.number (l ++ rest)) (sym (if_no test (enqueue_turns c.number start stop items) f))
-    (subst (PutsNumbered last c.number) (sym none) e')))
+    subst (λ l. Numbered last c.number (l ++ rest)) (sym (if_no test (enqueue_turns c.number start stop items) f))
+    (subst (Numbered last c.number) (sym none) e')))
 put_turns-numbered shape c start (Full seen ∷ puts) closes t last e =
     let stop : ℕ = start + put_long shape c (Full seen) in
-    let rest : List Op = put_turns shape c stop puts closes t in
     let y : Span = span_of P shape c (look seen Stops) in
     let ys : List Span = spans P shape c (put_looks puts) in
     let later : t - start - whole y ≡ t - stop = omega arith in
-    let e' : c.number + counts_begun ys (t - stop) ≡ last = omega (arith, e, begun_of_none y ys (t - start) refl, ap (counts_begun ys) later) in
-    let r = put_turns-numbered shape c stop puts closes t last e' in
-    by_case (nat_le stop t)
-    (λ f. subst (λ l. PutsNumbered last c.number (l ++ rest)) (sym (if_yes (nat_le stop t) (put_turn c.number Misses start stop ∷ []) f)) (refl, r))
-    (λ f. subst (λ l. PutsNumbered last c.number (l ++ rest)) (sym (if_no (nat_le stop t) (put_turn c.number Misses start stop ∷ []) f)) r)
+    grind (arith, begun_of_none, if_yes, if_no, put_turns-numbered shape c stop puts closes t last (omega (arith, e, begun_of_none y ys (t - start) refl, ap (counts_begun ys) later)))
 
 -- ---- their items
 
-enqueues_items : (n start stop : ℕ) (items : List ℕ) (xs : List Op) → items_put_by (enqueue_turns n start stop items ++ xs) ≡ items ++ items_put_by xs
+enqueues_items : (n start stop : ℕ) (items : List ℕ) (xs : List Op) → items_by (enqueue_turns n start stop items ++ xs) ≡ items ++ items_by xs
 enqueues_items n start stop [] xs = refl
 enqueues_items n start stop (item ∷ items) xs = ap (λ l. item ∷ l) (enqueues_items (suc n) start stop items xs)
 
 join_items :
-    (test test' : Bool) (n start stop : ℕ) (items rest : List ℕ) (xs : List Op) → test ≡ test' → items_put_by xs ≡ rest →
-    items_put_by ((if test then enqueue_turns n start stop items else []) ++ xs) ≡ (if test' then items else []) ++ rest
-join_items true test' n start stop items rest xs e f = subst (λ b. items_put_by (enqueue_turns n start stop items ++ xs) ≡ (if b then items else []) ++ rest) e (enqueues_items n start stop items xs ∙ ap (λ l. items ++ l) f)
-join_items false test' n start stop items rest xs e f = subst (λ b. items_put_by xs ≡ (if b then items else []) ++ rest) e f
+    (test test' : Bool) (n start stop : ℕ) (items rest : List ℕ) (xs : List Op) → test ≡ test' → items_by xs ≡ rest →
+    items_by ((if test then enqueue_turns n start stop items else []) ++ xs) ≡ (if test' then items else []) ++ rest
+join_items test test' n start stop items rest xs e f = grind (arith, enqueues_items)
 
-full_items : (test : Bool) (n start stop : ℕ) (xs : List Op) → items_put_by ((if test then put_turn n Misses start stop ∷ [] else []) ++ xs) ≡ items_put_by xs
-full_items true n start stop xs = refl
-full_items false n start stop xs = refl
+full_items : (test : Bool) (n start stop : ℕ) (xs : List Op) → items_by ((if test then put_turn n Misses start stop ∷ [] else []) ++ xs) ≡ items_by xs
+full_items test n start stop xs = grind arith
 
-close_items : (test : Bool) (n start stop : ℕ) → items_put_by (if test then put_turn n Ends start stop ∷ [] else []) ≡ []
-close_items true n start stop = refl
-close_items false n start stop = refl
+close_items : (test : Bool) (n start stop : ℕ) → items_by (if test then put_turn n Ends start stop ∷ [] else []) ≡ []
+close_items test n start stop = grind arith
 
 pub put_turns-items :
     (shape : Shape) (c : Count) (start : ℕ) (puts : List Put) (closes : Bool) (t : ℕ) →
-    items_put_by (put_turns shape c start puts closes t) ≡ items_put shape c puts (t - start)
-put_turns-items shape c start [] false t = refl
-put_turns-items shape c start [] true t = close_items (nat_lt start t) c.number start (start + 2)
+    items_by (put_turns shape c start puts closes t) ≡ items_put shape c puts (t - start)
+put_turns-items shape c start [] closes t = grind (arith, close_items)
 put_turns-items shape c start (Stored seen items ∷ puts) closes t =
-    let stop : ℕ = start + put_long shape c (Stored seen items) in
-    let next : Count = stored_after shape c (Stored seen items) in
-    let later : t - stop ≡ t - start - put_long shape c (Stored seen items) = omega arith in
-    join_items (nat_lt (start + until_count shape c seen items) t) (nat_lt (until_count shape c seen items) (t - start)) c.number start stop items _ _
-    (lt-behind start (until_count shape c seen items) t)
-    (put_turns-items shape next stop puts closes t ∙ ap (items_put shape next puts) later)
+    grind (arith, put_long, join_items, lt-behind, put_turns-items shape (stored_after shape c (Stored seen items)) (start + put_long shape c (Stored seen items)) puts closes t)
 put_turns-items shape c start (Full seen ∷ puts) closes t =
-    let stop : ℕ = start + put_long shape c (Full seen) in
-    let later : t - stop ≡ t - start - put_long shape c (Full seen) = omega arith in
-    full_items (nat_le stop t) c.number start stop (put_turns shape c stop puts closes t) ∙ put_turns-items shape c stop puts closes t ∙ ap (items_put shape c puts) later
+    grind (arith, put_long, full_items, put_turns-items shape c (start + put_long shape c (Full seen)) puts closes t)
 
 -- ---- the close
 
@@ -134,24 +110,15 @@ closed_enqueues b n start stop (item ∷ items) xs r = closed_enqueues b (suc n)
 
 pub put_turns-closed :
     (shape : Shape) (c : Count) (start : ℕ) (puts : List Put) (t : ℕ) → start + events_in (put_phrases shape c puts) < t → IsClosedBy false (put_turns shape c start puts true t)
-put_turns-closed shape c start [] t l =
-    subst (IsClosedBy false) (sym (if_yes (nat_lt start t) (put_turn c.number Ends start (start + 2) ∷ []) (lt-ltb start t (omega (arith, l))))) refl
+put_turns-closed shape c start [] t l = grind (arith, if_yes, lt-ltb)
 put_turns-closed shape c start (Stored seen items ∷ puts) t l =
     let stop : ℕ = start + put_long shape c (Stored seen items) in
     let next : Count = stored_after shape c (Stored seen items) in
-    let rest : List Op = put_turns shape next stop puts true t in
-    let test : Bool = nat_lt (start + until_count shape c seen items) t in
     let r = put_turns-closed shape next stop puts t (omega (arith, l, length-append (put_phrase shape c (Stored seen items)) (put_phrases shape next puts))) in
-    by_case test
-    (λ f. subst (λ l. IsClosedBy false (l ++ rest)) (sym (if_yes test (enqueue_turns c.number start stop items) f)) (closed_enqueues false c.number start stop items rest r))
-    (λ f. subst (λ l. IsClosedBy false (l ++ rest)) (sym (if_no test (enqueue_turns c.number start stop items) f)) r)
+    grind (arith, if_yes, closed_enqueues, if_no)
 put_turns-closed shape c start (Full seen ∷ puts) t l =
     let stop : ℕ = start + put_long shape c (Full seen) in
-    let rest : List Op = put_turns shape c stop puts true t in
-    let r = put_turns-closed shape c stop puts t (omega (arith, l, length-append (put_phrase shape c (Full seen)) (put_phrases shape c puts))) in
-    by_case (nat_le stop t)
-    (λ f. subst (λ l. IsClosedBy false (l ++ rest)) (sym (if_yes (nat_le stop t) (put_turn c.number Misses start stop ∷ []) f)) r)
-    (λ f. subst (λ l. IsClosedBy false (l ++ rest)) (sym (if_no (nat_le stop t) (put_turn c.number Misses start stop ∷ []) f)) r)
+    grind (arith, length-append, if_yes, if_no, put_turns-closed shape c stop puts t (omega (arith, l, length-append (put_phrase shape c (Full seen)) (put_phrases shape c puts))))
 
 -- ---- what holds for each
 
@@ -175,8 +142,7 @@ module _ (shape : Shape) (h : List Event) (puts : Puts) (takes : Takes) (law : L
       stop ≡ start + whole y → next.number ≡ c.number + counts y.outcome → Stand c start puts' → Stand next stop rest
   stand_on c next start stop y puts' rest e f g stand s n x st =
       let here : IsSpanAt (spans P shape c (put_looks puts')) (whole y + s) (counts y.outcome + n) x = subst (λ l. IsSpanAt l (whole y + s) (counts y.outcome + n) x) (sym e) (inr (s, n, refl, refl, st)) in
-      stands_at (put_spans shape puts) (start + (whole y + s)) (stop + s) (c.number + (counts y.outcome + n)) (next.number + n) x (omega (arith, f)) (omega (arith, g))
-      (stand (whole y + s) (counts y.outcome + n) x here)
+      grind (arith, stands_at)
 
   -- what has begun before a span that is there
   begun_there : (start n : ℕ) (y : Span) → IsSpanAt (put_spans shape puts) start n y → (i : ℕ) → i ≤ start → counts_begun (put_spans shape puts) i ≤ n
@@ -189,20 +155,7 @@ module _ (shape : Shape) (h : List Event) (puts : Puts) (takes : Takes) (law : L
       c.number + in_all (spans P shape c (put_looks rest)) ≡ in_all (put_spans shape puts) →
       (x : Op) → In x (put_turns shape c start rest closes (length (subhistory P h))) → IsPut x
   puts_hold c start [] false stand e f x i = absurd i
-  puts_hold c start [] true stand e f x i = elim (in_if x (nat_lt start (length (subhistory P h))) (put_turn c.number Ends start (start + 2) ∷ []) i).1 [
-    | inl g ↦ subst IsPut (sym g) ((
-      record {
-        some = omega arith;
-        begins = omega (arith, e);
-        not_begun = λ j l. omega (arith, f, begun_all (batch_of shape) (put_spans shape puts) proper_puts j);
-        ended = λ s. absurd s;
-        full = λ s. absurd s;
-        close = λ s. omega (arith, e);
-      },
-      λ s. absurd s,
-    ))
-    | inr j ↦ absurd j
-  ]
+  puts_hold c start [] true stand e f x i = grind (arith, in_if, begun_all)
   puts_hold c start (Stored seen items ∷ rest) closes stand e f x i =
       let stop : ℕ = start + put_long shape c (Stored seen items) in
       let next : Count = stored_after shape c (Stored seen items) in
@@ -216,7 +169,7 @@ module _ (shape : Shape) (h : List Event) (puts : Puts) (takes : Takes) (law : L
       elim (in_append x (if test then enqueue_turns c.number start stop items else []) (put_turns shape next stop rest closes t) i) [
         | inl j ↦ (
             let (holds, k) = in_if x test (enqueue_turns c.number start stop items) j in
-            let r = enqueue_of c.number start stop items x k in
+            let r = move_so 0 c.number start stop items x (move_of 0 c.number start stop items x k) in
             let begun = begun_counts (put_spans shape puts) start c.number y t st (omega (arith, ltb-true (start + until_count shape c seen items) t holds, front)) in (
               record {
                 some = omega (arith, r.starts, r.stops, before_put_ends shape c seen items);

@@ -1,14 +1,16 @@
 -- The operations of the producer's calls, with their numbers: their order, and what holds for each.
-use Rattle.std.proofs.Common.{◌≡◌, ◌⊎◌, inl, inr, ℕ, suc, ◌+◌, ◌-◌, ◌<◌, ◌≤◌, Bool, true, false, nat_lt, nat_le, if◌then◌else◌, List, [], ◌∷◌, ◌++◌, length, refl, sym, ap, ap₂, subst, ◌∙◌, arith, length-append, map}
+use Rattle.std.proofs.Common.{◌≡◌, ◌⊎◌, inl, inr, ℕ, suc, ◌+◌, ◌-◌, ◌<◌, ◌≤◌, Bool, true, false, nat_lt, nat_le, if◌then◌else◌, Some, List, [], ◌∷◌, ◌++◌, length, refl, sym, ap, ap₂, subst, arith, length-append, ◌∙◌}
+use Rattle.std.specs.Prelude.{slice_get, map}
+use Rattle.std.proofs.lemmas.List.{map-append}
+use Rattle.std.proofs.lemmas.Option.{slice_get_within}
 use Rattle.std.proofs.lemmas.Bool.Decides.{nat_tests}
 use Rattle.std.proofs.lemmas.Bool.{lt-ltb, le-ltb, lt-leb}
 use Rattle.bits_core.specs.declared.events.Side.TheVariants.{P}
 use Rattle.bits_core.specs.declared.shapes.Shape.{Shape}
-use Rattle.bits_core.specs.Made.{Made}
 use Rattle.bits_core.proofs.OwnEvents.{by_case}
-use Rattle.register_core.specs.ScanState.{scan_phrase, row_read_by}
-use Rattle.ring_core.specs.Counts.{number_past, Count, batch_phrase}
-use Rattle.ring_core.specs.Puts.{Put, Stored, Full, stored_after, accesses_before_count, words_phrase, put_phrase}
+use Rattle.register_core.specs.ScanState.{row_read_by}
+use Rattle.ring_core.specs.Counts.{number_past, Count}
+use Rattle.ring_core.specs.Puts.{Put, Stored, Full, stored_after, accesses_before_count, put_phrase}
 use Rattle.ring_core.specs.Items.{events_in}
 use Rattle.queue_calls.specs.Queue.{Enqueue}
 use Rattle.ring_core.specs.Linear.{TimedOperation, operations, put_operations}
@@ -17,7 +19,7 @@ use Rattle.ring_core.proofs.CountRow.{past_is}
 use Rattle.ring_core.proofs.Machines.Lengths.{length-scan}
 use Rattle.ring_core.proofs.OverSpans.Timeline.{begun_zero}
 use Rattle.ring_core.proofs.Linear.Turns.{In, Kind, Moves, Misses, Ends, IsMove, Op, put_op, GoesTo, move_not_miss}
-use Rattle.ring_core.proofs.Linear.OneOrder.{put_ops, PutsSorted}
+use Rattle.ring_core.proofs.Linear.OneOrder.{put_ops, Sorted, Numbered}
 
 -- ---- lists under a test
 
@@ -33,8 +35,7 @@ in_append x (z ∷ xs) ys (inl e) = inl (inl e)
 in_append x (z ∷ xs) ys (inr i) = elim (in_append x xs ys i) [ inl j ↦ inl (inr j) | inr j ↦ inr j ]
 
 pub in_if : {A : Type 0} (x : A) (t : Bool) (xs : List A) → In x (if t then xs else []) → (t ≡ true) × In x xs
-in_if x true xs i = (refl, i)
-in_if x false xs i = absurd i
+in_if x t xs i = grind arith
 
 -- ---- counts that have begun, by the first span
 
@@ -42,32 +43,32 @@ pub begun_past_count : (y : Span) (ys : List Span) (i : ℕ) → before_count y 
 begun_past_count y ys i l = ap (λ (b : Bool). (if b then counts y.outcome else 0) + counts_begun ys (i - whole y)) (lt-ltb (before_count y) i l)
 
 pub begun_before_count : (y : Span) (ys : List Span) (i : ℕ) → i ≤ before_count y → counts_begun (y ∷ ys) i ≡ 0
-begun_before_count y ys i l =
-    let none : i - whole y ≡ 0 = omega arith in
-    ap (λ (b : Bool). (if b then counts y.outcome else 0) + counts_begun ys (i - whole y)) (le-ltb (before_count y) i l) ∙ ap (λ j. 0 + counts_begun ys j) none ∙ omega (arith, begun_zero ys)
+begun_before_count y ys i l = grind (arith, le-ltb, begun_zero)
 
 pub begun_of_none : (y : Span) (ys : List Span) (i : ℕ) → counts y.outcome ≡ 0 → counts_begun (y ∷ ys) i ≡ counts_begun ys (i - whole y)
-begun_of_none y ys i e = by_case (nat_lt (before_count y) i)
-    (λ f. ap (λ (b : Bool). (if b then counts y.outcome else 0) + counts_begun ys (i - whole y)) f ∙ omega (arith, e))
-    (λ f. ap (λ (b : Bool). (if b then counts y.outcome else 0) + counts_begun ys (i - whole y)) f ∙ omega arith)
+begun_of_none y ys i e = grind arith
 
 -- the items of a span whose count write has begun are counted
 pub begun_counts : (xs : List Span) (s n : ℕ) (x : Span) (i : ℕ) → IsSpanAt xs s n x → s + before_count x < i → n + counts x.outcome ≤ counts_begun xs i
 begun_counts [] s n x i st l = elim st [ ]
-begun_counts (y ∷ ys) s n x i (inl st) l =
-    let same : before_count x ≡ before_count y = ap (λ (z : Span). before_count z) st.2 in
-    omega (arith, begun_past_count y ys i (omega (arith, l, same)), ap (λ (z : Span). counts z.outcome) st.2, st.1)
-begun_counts (y ∷ ys) s n x i (inr st) l =
-    omega (arith, begun_past_count y ys i (omega (arith, l, st.2)), begun_counts ys st.0 st.1 x (i - whole y) st.4 (omega (arith, l, st.2)), st.3)
+begun_counts (y ∷ ys) s n x i (inl st) l = grind (arith, begun_past_count)
+begun_counts (y ∷ ys) s n x i (inr st) l = grind (arith, begun_past_count, begun_counts ys st.0 st.1 x (i - whole y) st.4 (omega (arith, l, st.2)))
 
 -- ---- the operations
 
+abbrev pub turn : (place n : ℕ) → Kind → (start stop : ℕ) → Op
+turn place n kind start stop = record { number = n; kind = kind; start = start; stop = stop; place = place }
+
+-- those of a call that moves items, one by one
+abbrev pub moves : (place n start stop : ℕ) → List ℕ → List Op
+moves place n start stop [] = []
+moves place n start stop (item ∷ items) = turn place n (Moves item) start stop ∷ moves place (suc n) start stop items
+
 abbrev pub put_turn : ℕ → Kind → ℕ → ℕ → Op
-put_turn n kind start stop = record { number = n; kind = kind; start = start; stop = stop }
+put_turn = turn 0
 
 abbrev pub enqueue_turns : ℕ → ℕ → ℕ → List ℕ → List Op
-enqueue_turns n start stop [] = []
-enqueue_turns n start stop (item ∷ items) = put_turn n (Moves item) start stop ∷ enqueue_turns (suc n) start stop items
+enqueue_turns = moves 0
 
 -- how many events a put has, and how many one that stores has up to its count write
 abbrev pub put_long : Shape → Count → Put → ℕ
@@ -88,13 +89,8 @@ put_turns shape c start (Full seen ∷ puts) closes t =
 
 -- ---- they are those of the statement
 
-put_ops-append : (xs ys : List Op) → put_ops (xs ++ ys) ≡ put_ops xs ++ put_ops ys
-put_ops-append [] ys = refl
-put_ops-append (x ∷ xs) ys = ap (λ l. put_op x ∷ l) (put_ops-append xs ys)
-
 put_ops-if : (t : Bool) (xs : List Op) → put_ops (if t then xs else []) ≡ (if t then put_ops xs else [])
-put_ops-if true xs = refl
-put_ops-if false xs = refl
+put_ops-if t xs = grind arith
 
 enqueue_turns-ops : (n start stop : ℕ) (items : List ℕ) → put_ops (enqueue_turns n start stop items) ≡ operations P start stop (map Enqueue items)
 enqueue_turns-ops n start stop [] = refl
@@ -106,25 +102,15 @@ one_test a n t = grind (arith, nat_tests)
 join_ops :
     (t t' : Bool) (xs ys : List Op) (os rest : List TimedOperation) → t ≡ t' → put_ops xs ≡ os → put_ops ys ≡ rest →
     put_ops ((if t then xs else []) ++ ys) ≡ (if t' then os else []) ++ rest
-join_ops t t' xs ys os rest e f g =
-    put_ops-append (if t then xs else []) ys ∙ ap₂ (λ a b. a ++ b) (put_ops-if t xs ∙ ap (λ l. if t then l else []) f ∙ ap (λ (b : Bool). if b then os else []) e) g
+join_ops t t' xs ys os rest e f g = grind (arith, map-append, put_ops-if)
 
 pub put_turns-ops :
     (shape : Shape) (c : Count) (start : ℕ) (puts : List Put) (closes : Bool) (t : ℕ) →
     put_ops (put_turns shape c start puts closes t) ≡ put_operations shape c start puts closes t
-put_turns-ops shape c start [] false t = refl
-put_turns-ops shape c start [] true t =
-    let test : nat_lt start t ≡ nat_le (start + 1) t = grind (arith, nat_tests) in
-    put_ops-if (nat_lt start t) (put_turn c.number Ends start (start + 2) ∷ []) ∙
-    ap (λ (b : Bool). if b then put_op (put_turn c.number Ends start (start + 2)) ∷ [] else []) test
+put_turns-ops shape c start [] closes t = grind (arith, nat_tests, put_ops-if)
 put_turns-ops shape c start (Stored seen items ∷ puts) closes t =
-    let stop : ℕ = start + put_long shape c (Stored seen items) in
-    let until : ℕ = until_count shape c seen items in
-    join_ops (nat_lt (start + until) t) (nat_le (start + suc until) t) (enqueue_turns c.number start stop items) _ _ _ (one_test start until t)
-    (enqueue_turns-ops c.number start stop items) (put_turns-ops shape (stored_after shape c (Stored seen items)) stop puts closes t)
-put_turns-ops shape c start (Full seen ∷ puts) closes t =
-    let stop : ℕ = start + put_long shape c (Full seen) in
-    join_ops (nat_le stop t) (nat_le stop t) (put_turn c.number Misses start stop ∷ []) _ _ _ refl refl (put_turns-ops shape c stop puts closes t)
+    grind (arith, join_ops, one_test, enqueue_turns-ops, put_turns-ops shape (stored_after shape c (Stored seen items)) (start + put_long shape c (Stored seen items)) puts closes t)
+put_turns-ops shape c start (Full seen ∷ puts) closes t = grind (arith, join_ops, put_turns-ops shape c (start + put_long shape c (Full seen)) puts closes t)
 
 -- ---- if nothing has begun there are none
 
@@ -133,24 +119,16 @@ put_some shape c seen = omega (arith, length-scan (row_read_by P) seen)
 
 pub before_put_ends : (shape : Shape) (c : Count) (seen : ℕ) (items : List ℕ) →
     (1 ≤ until_count shape c seen items) × (until_count shape c seen items ≤ put_long shape c (Stored seen items))
-before_put_ends shape c seen items =
-    let a : List Made = scan_phrase (row_read_by P) seen in
-    let b : List Made = words_phrase shape c.number items in
-    let d : List Made = batch_phrase shape P c items in
-    omega (arith, length-scan (row_read_by P) seen, length-append a b, length-append (a ++ b) d)
+before_put_ends shape c seen items = grind (arith, length-scan, length-append)
 
-no_turns : (xs ys : List Op) → xs ≡ [] → ys ≡ [] → xs ++ ys ≡ []
+pub no_turns : (xs ys : List Op) → xs ≡ [] → ys ≡ [] → xs ++ ys ≡ []
 no_turns xs ys e f = ap₂ (λ a b. a ++ b) e f
 
 pub put_turns-none :
     (shape : Shape) (c : Count) (start : ℕ) (puts : List Put) (closes : Bool) (t : ℕ) → t ≤ start → put_turns shape c start puts closes t ≡ []
-put_turns-none shape c start [] false t l = refl
-put_turns-none shape c start [] true t l = if_no (nat_lt start t) (put_turn c.number Ends start (start + 2) ∷ []) (le-ltb start t l)
+put_turns-none shape c start [] closes t l = grind (arith, if_no, le-ltb)
 put_turns-none shape c start (Stored seen items ∷ puts) closes t l =
-    let stop : ℕ = start + put_long shape c (Stored seen items) in
-    no_turns _ (put_turns shape (stored_after shape c (Stored seen items)) stop puts closes t)
-    (if_no (nat_lt (start + until_count shape c seen items) t) (enqueue_turns c.number start stop items) (le-ltb (start + until_count shape c seen items) t (omega (arith, l))))
-    (put_turns-none shape (stored_after shape c (Stored seen items)) stop puts closes t (omega (arith, l)))
+    grind (arith, no_turns, if_no, le-ltb, put_turns-none shape (stored_after shape c (Stored seen items)) (start + put_long shape c (Stored seen items)) puts closes t (omega (arith, l)))
 put_turns-none shape c start (Full seen ∷ puts) closes t l =
     let stop : ℕ = start + put_long shape c (Full seen) in
     no_turns _ (put_turns shape c stop puts closes t)
@@ -159,28 +137,35 @@ put_turns-none shape c start (Full seen ∷ puts) closes t l =
 
 -- ---- their order
 
--- what an operation of a batch is
-pub record IsEnqueueOf (n start stop : ℕ) (items : List ℕ) (x : Op) : Type 0 where
+-- what an operation of a call that moves items is
+pub record IsMoveOf (place n start stop : ℕ) (items : List ℕ) (x : Op) : Type 0 where
   pub index : ℕ
+  pub item : ℕ
+  pub is_x : x ≡ turn place (n + index) (Moves item) start stop
+  pub listed : slice_get items index ≡ Some item
+
+pub move_of : (place n start stop : ℕ) (items : List ℕ) (x : Op) → In x (moves place n start stop items) → IsMoveOf place n start stop items x
+move_of place n start stop [] x i = absurd i
+move_of place n start stop (item ∷ items) x (inl e) = record {
+  index = 0;
+  item = item;
+  is_x = e ∙ ap (λ k. turn place k (Moves item) start stop) (omega arith);
+  listed = refl;
+}
+move_of place n start stop (item ∷ items) x (inr i) =
+    let r = move_of place (suc n) start stop items x i in
+    record { index = suc r.index; item = r.item; is_x = r.is_x ∙ ap (λ k. turn place k (Moves r.item) start stop) (omega arith); listed = r.listed }
+
+-- what follows for its fields
+pub record AreMoved (n start stop : ℕ) (items : List ℕ) (index : ℕ) (x : Op) : Type 0 where
   pub number : x.number ≡ n + index
   pub inside : index < length items
   pub starts : x.start ≡ start
   pub stops : x.stop ≡ stop
   pub enqueues : IsMove x.kind
 
-pub enqueue_of : (n start stop : ℕ) (items : List ℕ) (x : Op) → In x (enqueue_turns n start stop items) → IsEnqueueOf n start stop items x
-enqueue_of n start stop [] x i = absurd i
-enqueue_of n start stop (item ∷ items) x (inl e) = record {
-  index = 0;
-  number = omega (arith, ap (λ (z : Op). z.number) e);
-  inside = omega arith;
-  starts = ap (λ (z : Op). z.start) e;
-  stops = ap (λ (z : Op). z.stop) e;
-  enqueues = subst (λ (z : Op). IsMove z.kind) (sym e) tt;
-}
-enqueue_of n start stop (item ∷ items) x (inr i) =
-    let r = enqueue_of (suc n) start stop items x i in
-    record { index = suc r.index; number = omega (arith, r.number); inside = omega (arith, r.inside); starts = r.starts; stops = r.stops; enqueues = r.enqueues }
+pub move_so : (place n start stop : ℕ) (items : List ℕ) (x : Op) (r : IsMoveOf place n start stop items x) → AreMoved n start stop items r.index x
+move_so place n start stop items x r = grind (arith, slice_get_within)
 
 -- an operation that comes after this many events and items
 pub record IsFrom (start number : ℕ) (x : Op) : Type 0 where
@@ -188,32 +173,25 @@ pub record IsFrom (start number : ℕ) (x : Op) : Type 0 where
   pub some : x.start < x.stop
   pub behind : number ≤ x.number
 
-from_here : (n start stop : ℕ) (kind : Kind) (x : Op) → start < stop → x ≡ put_turn n kind start stop → IsFrom start n x
-from_here n start stop kind x l e = record {
-  starts = omega (arith, ap (λ (z : Op). z.start) e);
-  some = omega (arith, l, ap (λ (z : Op). z.start) e, ap (λ (z : Op). z.stop) e);
-  behind = omega (arith, ap (λ (z : Op). z.number) e);
-}
+pub from_here : (place n start stop : ℕ) (kind : Kind) (x : Op) → start < stop → x ≡ turn place n kind start stop → IsFrom start n x
+from_here place n start stop kind x l e = grind arith
 
-from_later : (start start' n n' : ℕ) (x : Op) → start ≤ start' → n ≤ n' → IsFrom start' n' x → IsFrom start n x
+pub from_move : (place n start stop : ℕ) (items : List ℕ) (x : Op) → start < stop → IsMoveOf place n start stop items x → IsFrom start n x
+from_move place n start stop items x l r = grind (arith, from_here)
+
+pub from_later : (start start' n n' : ℕ) (x : Op) → start ≤ start' → n ≤ n' → IsFrom start' n' x → IsFrom start n x
 from_later start start' n n' x l m r = record { starts = omega (arith, l, r.starts); some = r.some; behind = omega (arith, m, r.behind) }
 
 pub put_turns-from :
     (shape : Shape) (c : Count) (start : ℕ) (puts : List Put) (closes : Bool) (t : ℕ) (x : Op) →
     In x (put_turns shape c start puts closes t) → IsFrom start c.number x
-put_turns-from shape c start [] false t x i = absurd i
-put_turns-from shape c start [] true t x i = elim (in_if x (nat_lt start t) (put_turn c.number Ends start (start + 2) ∷ []) i).1 [
-  | inl e ↦ from_here c.number start (start + 2) Ends x (omega arith) e
-  | inr j ↦ absurd j
-]
+put_turns-from shape c start [] closes t x i = grind (arith, in_if, from_here)
 put_turns-from shape c start (Stored seen items ∷ puts) closes t x i =
     let stop : ℕ = start + put_long shape c (Stored seen items) in
     let next : Count = stored_after shape c (Stored seen items) in
     let b = before_put_ends shape c seen items in
     elim (in_append x (if nat_lt (start + until_count shape c seen items) t then enqueue_turns c.number start stop items else []) (put_turns shape next stop puts closes t) i) [
-      | inl j ↦ (
-          let r = enqueue_of c.number start stop items x (in_if x _ (enqueue_turns c.number start stop items) j).1 in
-          record { starts = omega (arith, r.starts); some = omega (arith, r.starts, r.stops, b); behind = omega (arith, r.number) })
+      | inl j ↦ from_move 0 c.number start stop items x (omega (arith, b)) (move_of 0 c.number start stop items x (in_if x _ (enqueue_turns c.number start stop items) j).1)
       | inr j ↦ from_later start stop c.number next.number x (omega arith) (omega (arith, past_is c.number items)) (put_turns-from shape next stop puts closes t x j)
     ]
 put_turns-from shape c start (Full seen ∷ puts) closes t x i =
@@ -221,27 +199,26 @@ put_turns-from shape c start (Full seen ∷ puts) closes t x i =
     elim (in_append x (if nat_le stop t then put_turn c.number Misses start stop ∷ [] else []) (put_turns shape c stop puts closes t) i) [
       | inl j ↦ (
           elim (in_if x (nat_le stop t) (put_turn c.number Misses start stop ∷ []) j).1 [
-            | inl e ↦ from_here c.number start stop Misses x (omega (arith, put_some shape c seen)) e
+            | inl e ↦ from_here 0 c.number start stop Misses x (omega (arith, put_some shape c seen)) e
             | inr k ↦ absurd k
           ])
       | inr j ↦ from_later start stop c.number c.number x (omega arith) (omega arith) (put_turns-from shape c stop puts closes t x j)
     ]
 
--- the operations of a batch precede what comes after it
-enqueue_before :
-    (n start stop : ℕ) (item : ℕ) (x : Op) → IsFrom stop (suc n) x → start ≤ stop → GoesTo (put_turn n (Moves item) start stop) x
-enqueue_before n start stop item x r l =
-    record { start = omega (arith, r.starts, l); stop = omega (arith, r.starts, r.some); number = omega (arith, r.behind); miss = λ a b. (omega (arith, r.behind), r.starts); ends = λ a. absurd a }
+before_later : (place n start stop item : ℕ) (x : Op) → IsFrom stop (suc n) x → start ≤ stop → GoesTo (turn place n (Moves item) start stop) x
+before_later place n start stop item x r l = grind arith
 
-enqueues_sorted :
-    (n start stop : ℕ) (items : List ℕ) (xs : List Op) → start ≤ stop → ((x : Op) → In x xs → IsFrom stop (number_past n items) x) → PutsSorted xs →
-    PutsSorted (enqueue_turns n start stop items ++ xs)
-enqueues_sorted n start stop [] xs l from s = s
-enqueues_sorted n start stop (item ∷ items) xs l from s = (
+-- they precede each other, and what comes after them
+pub moves_sorted :
+    (place n start stop : ℕ) (items : List ℕ) (xs : List Op) → start ≤ stop → ((x : Op) → In x xs → IsFrom stop (number_past n items) x) → Sorted xs →
+    Sorted (moves place n start stop items ++ xs)
+moves_sorted place n start stop [] xs l from s = s
+moves_sorted place n start stop (item ∷ items) xs l from s = (
   (λ x i. (
-    (elim (in_append x (enqueue_turns (suc n) start stop items) xs i) [
+    (elim (in_append x (moves place (suc n) start stop items) xs i) [
       | inl j ↦ (
-          let r = enqueue_of (suc n) start stop items x j in
+          let m = move_of place (suc n) start stop items x j in
+          let r = move_so place (suc n) start stop items x m in
           record {
             start = omega (arith, r.starts);
             stop = omega (arith, r.stops);
@@ -249,36 +226,40 @@ enqueues_sorted n start stop (item ∷ items) xs l from s = (
             miss = λ a b. absurd (move_not_miss x.kind r.enqueues b);
             ends = λ a. absurd a;
           })
-      | inr j ↦ enqueue_before n start stop item x (from_later stop stop (suc n) (number_past (suc n) items) x (omega arith) (omega (arith, past_is (suc n) items)) (from x j)) l
+      | inr j ↦ before_later place n start stop item x (from_later stop stop (suc n) (number_past (suc n) items) x (omega arith) (omega (arith, past_is (suc n) items)) (from x j)) l
     ]),
     λ a. absurd a,
   )),
-  enqueues_sorted (suc n) start stop items xs l from s,
+  moves_sorted place (suc n) start stop items xs l from s,
 )
 
 pub put_turns-sorted :
-    (shape : Shape) (c : Count) (start : ℕ) (puts : List Put) (closes : Bool) (t : ℕ) → PutsSorted (put_turns shape c start puts closes t)
-put_turns-sorted shape c start [] false t = tt
-put_turns-sorted shape c start [] true t = by_case (nat_lt start t)
-    (λ e. subst PutsSorted (sym (if_yes (nat_lt start t) (put_turn c.number Ends start (start + 2) ∷ []) e)) ((λ x i. absurd i), tt))
-    (λ e. subst PutsSorted (sym (if_no (nat_lt start t) (put_turn c.number Ends start (start + 2) ∷ []) e)) tt)
+    (shape : Shape) (c : Count) (start : ℕ) (puts : List Put) (closes : Bool) (t : ℕ) → Sorted (put_turns shape c start puts closes t)
+put_turns-sorted shape c start [] closes t = grind (arith, if_yes, if_no)
 put_turns-sorted shape c start (Stored seen items ∷ puts) closes t =
     let stop : ℕ = start + put_long shape c (Stored seen items) in
     let next : Count = stored_after shape c (Stored seen items) in
     let rest : List Op = put_turns shape next stop puts closes t in
     let test : Bool = nat_lt (start + until_count shape c seen items) t in
     by_case test
-    (λ e. subst (λ l. PutsSorted (l ++ rest)) (sym (if_yes test (enqueue_turns c.number start stop items) e))
-    (enqueues_sorted c.number start stop items rest (omega arith) (put_turns-from shape next stop puts closes t) (put_turns-sorted shape next stop puts closes t)))
-    (λ e. subst (λ l. PutsSorted (l ++ rest)) (sym (if_no test (enqueue_turns c.number start stop items) e)) (put_turns-sorted shape next stop puts closes t))
+    (λ e. subst (λ l. Sorted (l ++ rest)) (sym (if_yes test (enqueue_turns c.number start stop items) e))
+    (moves_sorted 0 c.number start stop items rest (omega arith) (put_turns-from shape next stop puts closes t) (put_turns-sorted shape next stop puts closes t)))
+    (λ e. subst (λ l. Sorted (l ++ rest)) (sym (if_no test (enqueue_turns c.number start stop items) e)) (put_turns-sorted shape next stop puts closes t))
 put_turns-sorted shape c start (Full seen ∷ puts) closes t =
     let stop : ℕ = start + put_long shape c (Full seen) in
     let rest : List Op = put_turns shape c stop puts closes t in
     let test : Bool = nat_le stop t in
     by_case test
-    (λ e. subst (λ l. PutsSorted (l ++ rest)) (sym (if_yes test (put_turn c.number Misses start stop ∷ []) e)) (
+    (λ e. subst (λ l. Sorted (l ++ rest)) (sym (if_yes test (put_turn c.number Misses start stop ∷ []) e)) (
       (λ x i. (let r = put_turns-from shape c stop puts closes t x i in
           (record { start = omega (arith, r.starts); stop = omega (arith, r.starts, r.some); number = r.behind; miss = λ a b. absurd a; ends = λ a. absurd a }, λ a. absurd a))),
       put_turns-sorted shape c stop puts closes t,
     ))
-    (λ e. subst (λ l. PutsSorted (l ++ rest)) (sym (if_no test (put_turn c.number Misses start stop ∷ []) e)) (put_turns-sorted shape c stop puts closes t))
+    (λ e. subst (λ l. Sorted (l ++ rest)) (sym (if_no test (put_turn c.number Misses start stop ∷ []) e)) (put_turns-sorted shape c stop puts closes t))
+
+-- ---- their numbers
+
+pub moves_numbered :
+    (place last n start stop : ℕ) (items : List ℕ) (xs : List Op) → Numbered last (number_past n items) xs → Numbered last n (moves place n start stop items ++ xs)
+moves_numbered place last n start stop [] xs r = r
+moves_numbered place last n start stop (item ∷ items) xs r = (refl, moves_numbered place last (suc n) start stop items xs r)

@@ -23,10 +23,10 @@ use Rattle.ring_core.proofs.OverSpans.Timeline.{AllProper, ended_begun, begun_at
 use Rattle.ring_core.proofs.OverSpans.CallSpans.{stands_at, take_phrase-item, take_phrase-after, take_phrase-empty}
 use Rattle.ring_core.proofs.CallCounts.{ended_counts, phrase_some}
 use Rattle.ring_core.proofs.OwnEvents.{clock_end}
-use Rattle.ring_core.proofs.Linear.Turns.{In, Misses, Ends, IsEnd, TakeOp, TakeFact}
-use Rattle.ring_core.proofs.Linear.PutTurns.{in_append, in_if}
+use Rattle.ring_core.proofs.Linear.Turns.{In, Misses, Ends, IsEnd, Op, TakeFact}
+use Rattle.ring_core.proofs.Linear.PutTurns.{in_append, in_if, move_of}
 use Rattle.ring_core.proofs.Linear.PutTurnFacts.{last_place}
-use Rattle.ring_core.proofs.Linear.TakeTurns.{take_turn, dequeue_turns, dequeue_of, take_long, end_long, take_turns, item_until, after_until, end_some, ItemIs}
+use Rattle.ring_core.proofs.Linear.TakeTurns.{take_turn, dequeue_turns, take_long, end_long, take_turns, item_until, after_until, end_some, ItemIs}
 use Rattle.bits_core.proofs.LawLemmas.{subhistory_has_place}
 
 module _ (shape : Shape) (h : List Event) (puts : Puts) (takes : Takes) (law : LawOfSpans shape h puts takes)
@@ -40,7 +40,7 @@ module _ (shape : Shape) (h : List Event) (puts : Puts) (takes : Takes) (law : L
   abbrev all_items : List ℕ
   all_items = items_put shape first_count puts.puts (length (subhistory P h))
 
-  abbrev IsTake : TakeOp → Type 0
+  abbrev IsTake : Op → Type 0
   IsTake y =
       TakeFact h all_events all_stored (counts_ended (put_spans shape puts)) (counts_begun (take_spans shape takes)) (counts_ended (take_spans shape takes)) y ×
       ItemIs all_items y.kind y.number × (IsEnd y.kind → (all_events < length (subhistory P h)) × (puts.closes ≡ true))
@@ -82,16 +82,16 @@ module _ (shape : Shape) (h : List Event) (puts : Puts) (takes : Takes) (law : L
   dequeue_holds :
       (k start stop start' : ℕ) (items : List ℕ) (y z : Span) → IsSpanAt (take_spans shape takes) start k y → IsSpanAt (take_spans shape takes) start' k z →
       z.outcome ≡ Passes items → stop ≡ start' + whole z → start' + before_count z < length (subhistory C h) → start < stop → start ≤ start' →
-      (o : TakeOp) → In o (dequeue_turns h k start stop items) → IsTake o
+      (o : Op) → In o (dequeue_turns h k start stop items) → IsTake o
   dequeue_holds k start stop start' items y z st st' passes stops begun some order o i =
-      let d = dequeue_of h k start stop items o i in
+      let d = move_of (place_of C h start) k start stop items o i in
       let q = first_at start (omega (arith, begun, order)) in
       let counted : counts z.outcome ≡ length items = ap counts passes in
       let within : d.index < length items = slice_get_within items d.index d.item d.listed in
       let words : z.word ≡ 2 * (counts z.outcome * width_of shape) =
       words_are C shape (take_looks takes.takes takes.end) start' k z st' (omega (arith, counted, within)) in
       let up : suc d.index * width_of shape ≤ counts z.outcome * width_of shape = multiple_up (suc d.index) (counts z.outcome) (width_of shape) (omega (arith, counted, within)) in
-      subst IsTake (sym d.is_y) (
+      subst IsTake (sym d.is_x) (
         record {
           some = some;
           at_place = q.before;
@@ -110,7 +110,7 @@ module _ (shape : Shape) (h : List Event) (puts : Puts) (takes : Takes) (law : L
 
   pub takes_hold :
       (c : Count) (start : ℕ) (rest : List Take) (end : End) → Stand (spans C shape c (take_looks rest end)) start c.number → Told c start rest end →
-      (y : TakeOp) → In y (take_turns h shape c start rest end (length (subhistory C h))) → IsTake y
+      (y : Op) → In y (take_turns h shape c start rest end (length (subhistory C h))) → IsTake y
   takes_hold c start [] Open stand told y i = absurd i
   takes_hold c start [] (Closed seen again) stand told y i =
       let k : ℕ = c.number in

@@ -1,5 +1,5 @@
 -- The operations of the two sides with their numbers, and which of one side must precede which of the other.
-use Rattle.std.proofs.Common.{◌≡◌, ◌⊎◌, inl, inr, ℕ, ◌+◌, ◌<◌, ◌≤◌, List, [], ◌∷◌, refl, sym, subst, arith}
+use Rattle.std.proofs.Common.{◌≡◌, ◌⊎◌, inl, inr, ℕ, ◌+◌, ◌<◌, ◌≤◌, List, [], ◌∷◌, arith}
 use Rattle.bits_core.specs.declared.events.Side.{Side}
 use Rattle.bits_core.specs.declared.events.Side.TheVariants.{P, C}
 use Rattle.bits_core.specs.declared.events.Event.{Event}
@@ -44,23 +44,13 @@ take_does (Moves item) = Dequeue item
 take_does Misses = FindEmpty
 take_does Ends = FindClosed
 
--- an operation of a side, after this many items that the side put or took
+-- an operation of a side, after this many items that the side put or took; of the consumer's, also the place where it begins
 pub record Op : Type 0 where
   pub number : ℕ
   pub kind : Kind
   pub start : ℕ
   pub stop : ℕ
-
--- one of the consumer, and the place where it begins
-pub record TakeOp : Type 0 where
-  pub number : ℕ
-  pub kind : Kind
-  pub start : ℕ
-  pub stop : ℕ
   pub place : ℕ
-
-abbrev pub but_place : TakeOp → Op
-but_place y = record { number = y.number; kind = y.kind; start = y.start; stop = y.stop }
 
 abbrev pub operation : Side → ℕ → ℕ → Operation → TimedOperation
 operation side start stop does = record { side = side; does = does; start = start; stop = stop }
@@ -68,7 +58,7 @@ operation side start stop does = record { side = side; does = does; start = star
 abbrev pub put_op : Op → TimedOperation
 put_op x = operation P x.start x.stop (put_does x.kind)
 
-abbrev pub take_op : TakeOp → TimedOperation
+abbrev pub take_op : Op → TimedOperation
 take_op y = operation C y.start y.stop (take_does y.kind)
 
 -- what holds for the counts of both sides, given how many have begun and ended within their own events
@@ -91,7 +81,7 @@ pub record PutFact (h : List Event) (capacity events : ℕ) (puts_begun puts_end
   pub close : IsEnd x.kind → events + 2 ≤ x.stop
 
 -- what holds for one of the consumer, if this many items were stored
-pub record TakeFact (h : List Event) (events stored : ℕ) (puts_ended takes_begun takes_ended : ℕ → ℕ) (y : TakeOp) : Type 0 where
+pub record TakeFact (h : List Event) (events stored : ℕ) (puts_ended takes_begun takes_ended : ℕ → ℕ) (y : Op) : Type 0 where
   pub some : y.start < y.stop
   pub at_place : clock C h y.place ≡ y.start
   pub last_place : (t : ℕ) → clock C h t ≤ y.start → t ≤ y.place
@@ -109,27 +99,17 @@ pub record GoesTo (x x' : Op) : Type 0 where
   pub miss : IsMove x.kind → IsMiss x'.kind → (x.number < x'.number) × (x.stop ≤ x'.start)
   pub ends : IsEnd x.kind → IsEnd x'.kind
 
-abbrev pub TakesTo : TakeOp → TakeOp → Type 0
-TakesTo y y' = GoesTo (but_place y) (but_place y')
-
 pub move_not_miss : (k : Kind) → IsMove k → IsMiss k → ⊥
-move_not_miss (Moves item) a b = absurd b
-move_not_miss Misses a b = absurd a
-move_not_miss Ends a b = absurd a
+move_not_miss k a b = grind arith
 
 pub move_not_end : (k : Kind) → IsMove k → IsEnd k → ⊥
-move_not_end (Moves item) a b = absurd b
-move_not_end Misses a b = absurd a
-move_not_end Ends a b = absurd a
+move_not_end k a b = grind arith
 
 end_not_miss : (k : Kind) → IsEnd k → IsMiss k → ⊥
-end_not_miss (Moves item) a b = absurd a
-end_not_miss Misses a b = absurd a
-end_not_miss Ends a b = absurd b
+end_not_miss k a b = grind arith
 
 pub goes_to_itself : (x : Op) → GoesTo x x
-goes_to_itself x =
-    record { start = omega arith; stop = omega arith; number = omega arith; miss = λ a b. absurd (move_not_miss x.kind a b); ends = λ a. a }
+goes_to_itself x = grind (arith, move_not_miss)
 
 -- What the queue needs: number k is dequeued after it is enqueued, and after each operation that finds the queue full and would
 -- find it not full without number k; the queue is found closed after all operations of the producer.
@@ -141,11 +121,11 @@ Needs capacity Misses k x n = ⊥
 Needs capacity Ends k x n = Unit {0}
 
 -- x must precede y: it ended before y began, or the queue needs it
-abbrev pub Must : List Event → ℕ → Op → TakeOp → Type 0
+abbrev pub Must : List Event → ℕ → Op → Op → Type 0
 Must h capacity x y = (x.stop ≤ clock P h y.place) ⊎ Needs capacity y.kind y.number x.kind x.number
 
 -- x may precede y
-pub record May (h : List Event) (capacity : ℕ) (x : Op) (y : TakeOp) : Type 0 where
+pub record May (h : List Event) (capacity : ℕ) (x : Op) (y : Op) : Type 0 where
   pub time : (t : ℕ) → y.stop ≤ clock C h t → clock P h t ≤ x.start → ⊥
   pub room : IsMove x.kind → x.number < y.number + capacity
   pub empty : IsMove x.kind → IsMiss y.kind → x.number < y.number
@@ -158,98 +138,40 @@ decide_needs capacity k n (Moves item) Ends = inr (λ a. absurd a)
 decide_needs capacity k n Misses x = inr (λ a. absurd a)
 decide_needs capacity k n Ends x = inl tt
 
-decide_must : (h : List Event) (capacity : ℕ) (x : Op) (y : TakeOp) → Must h capacity x y ⊎ (Must h capacity x y → ⊥)
-decide_must h capacity x y = elim (at_most_or_above x.stop (clock P h y.place)) [
-  | inl l ↦ inl (inl l)
-  | inr l ↦ elim (decide_needs capacity y.number x.number y.kind x.kind) [
-    | inl a ↦ inl (inr a)
-    | inr a ↦ inr (λ m. elim m [ inl b ↦ absurd (omega (arith, b, l)) | inr b ↦ absurd (a b) ])
-  ]
-]
+decide_must : (h : List Event) (capacity : ℕ) (x : Op) (y : Op) → Must h capacity x y ⊎ (Must h capacity x y → ⊥)
+decide_must h capacity x y = grind (arith, at_most_or_above, decide_needs)
 
 -- one of some operations must precede y, or none must
-abbrev pub FindsMust : List Event → ℕ → List Op → TakeOp → Type 0
+abbrev pub FindsMust : List Event → ℕ → List Op → Op → Type 0
 FindsMust h capacity xs y = (x : Op) × In x xs × Must h capacity x y
 
-abbrev pub NoMust : List Event → ℕ → List Op → TakeOp → Type 0
+abbrev pub NoMust : List Event → ℕ → List Op → Op → Type 0
 NoMust h capacity xs y = (x : Op) → In x xs → Must h capacity x y → ⊥
 
-pub find_must : (h : List Event) (capacity : ℕ) (xs : List Op) (y : TakeOp) → FindsMust h capacity xs y ⊎ NoMust h capacity xs y
+pub find_must : (h : List Event) (capacity : ℕ) (xs : List Op) (y : Op) → FindsMust h capacity xs y ⊎ NoMust h capacity xs y
 find_must h capacity [] y = inr (λ x i m. absurd i)
-find_must h capacity (x ∷ xs) y = elim (decide_must h capacity x y) [
-  | inl m ↦ inl (x, inl refl, m)
-  | inr n ↦ elim (find_must h capacity xs y) [
-    | inl (x', i, m) ↦ inl (x', inr i, m)
-    | inr none ↦ inr (λ x' i m. elim i [ inl e ↦ n (subst (λ z. Must h capacity z y) e m) | inr j ↦ none x' j m ])
-  ]
-]
+find_must h capacity (x ∷ xs) y = grind (arith, decide_must h capacity x y, find_must h capacity xs y)
 
 module _ (h : List Event) (capacity events stored : ℕ) (puts_begun puts_ended takes_begun takes_ended : ℕ → ℕ)
     (tallies : Tallies h capacity puts_begun puts_ended takes_begun takes_ended) where
   -- what ended before an operation of the consumer began may precede a later one
   may_by_time :
-      (x x' : Op) (y y' : TakeOp) → PutFact h capacity events puts_begun puts_ended takes_ended x →
+      (x x' : Op) (y y' : Op) → PutFact h capacity events puts_begun puts_ended takes_ended x →
       TakeFact h events stored puts_ended takes_begun takes_ended y → TakeFact h events stored puts_ended takes_begun takes_ended y' →
-      GoesTo x x' → TakesTo y y' → x'.stop ≤ clock P h y.place → May h capacity x y'
-  may_by_time x x' y y' px qy qy' xx yy l =
-      let t : ℕ = y.place in
-      let ended : x.stop ≤ clock P h t = omega (arith, xx.stop, l) in
-      let early : clock C h t ≤ y'.start = omega (arith, qy.at_place, yy.start) in
-      let later : t ≤ y'.place = qy'.last_place t early in
-      let ended' : x.stop ≤ clock P h y'.place = omega (arith, ended, tallies.up_p t y'.place later) in
-      record {
-        time = λ u a b. elim (at_most_or_above t u) [
-          | inl m ↦ absurd (omega (arith, tallies.up_p t u m, ended, b, px.some))
-          | inr m ↦ absurd (omega (arith, tallies.up_c u t (omega (arith, m)), early, a, qy'.some))
-        ];
-        room = λ s. omega (arith, px.ended s (clock P h t) ended, tallies.puts_end (clock P h t), tallies.room t, qy'.not_begun (clock C h t) early);
-        empty = λ s e. omega (arith, px.ended s (clock P h y'.place) ended', (qy'.empty e).0);
-        opened = λ s e. absurd (omega (arith, px.close s, ended', (qy'.empty e).1));
-      }
+      GoesTo x x' → GoesTo y y' → x'.stop ≤ clock P h y.place → May h capacity x y'
+  may_by_time x x' y y' px qy qy' xx yy l = grind (arith, at_most_or_above)
 
   -- and so may what the queue needs before it
   may_by_need :
-      (x x' : Op) (y y' : TakeOp) → PutFact h capacity events puts_begun puts_ended takes_ended x → PutFact h capacity events puts_begun puts_ended takes_ended x' →
+      (x x' : Op) (y y' : Op) → PutFact h capacity events puts_begun puts_ended takes_ended x → PutFact h capacity events puts_begun puts_ended takes_ended x' →
       TakeFact h events stored puts_ended takes_begun takes_ended y → TakeFact h events stored puts_ended takes_begun takes_ended y' →
-      GoesTo x x' → TakesTo y y' → (IsMove x.kind → x.number < stored) →
+      GoesTo x x' → GoesTo y y' → (IsMove x.kind → x.number < stored) →
       (ky : Kind) (kx : Kind) → y.kind ≡ ky → x'.kind ≡ kx → Needs capacity ky y.number kx x'.number → May h capacity x y'
-  may_by_need x x' y y' px px' qy qy' xx yy below (Moves item) (Moves item') ey ex l =
-      let is : IsMove y.kind = subst IsMove (sym ey) tt in
-      record {
-        time = λ t a b. absurd (omega (arith, qy.ended is (clock C h t) (omega (arith, yy.stop, a)), tallies.takes_end (clock C h t), tallies.few t, px.not_begun (clock P h t) b, xx.number, l));
-        room = λ s. omega (arith, xx.number, l, yy.number, tallies.has_cell);
-        empty = λ s e. omega (arith, xx.number, l, (yy.miss is e).0);
-        opened = λ s e. absurd (subst IsEnd ex (xx.ends s));
-      }
-  may_by_need x x' y y' px px' qy qy' xx yy below (Moves item) Misses ey ex l =
-      let is : IsMove y.kind = subst IsMove (sym ey) tt in
-      let is_full : IsMiss x'.kind = subst IsMiss (sym ex) tt in
-      record {
-        time = λ t a b. absurd (omega (arith, qy.ended is (clock C h t) (omega (arith, yy.stop, a)), px'.full is_full t (omega (arith, b, xx.start)), l));
-        room = λ s. omega (arith, (xx.miss s is_full).0, l, yy.number);
-        empty = λ s e. (
-            let t : ℕ = y'.place in
-            elim (at_most_or_above (clock P h t) x'.start) [
-              | inl m ↦ absurd (omega (arith, qy.ended is (clock C h t) (omega (arith, (yy.miss is e).1, qy'.at_place)), px'.full is_full t m, l))
-              | inr m ↦ omega (arith, px.ended s (clock P h t) (omega (arith, (xx.miss s is_full).1, m)), (qy'.empty e).0)
-            ]);
-        opened = λ s e. absurd (subst IsEnd ex (xx.ends s));
-      }
-  may_by_need x x' y y' px px' qy qy' xx yy below (Moves item) Ends ey ex l = absurd l
-  may_by_need x x' y y' px px' qy qy' xx yy below Misses kx ey ex l = absurd l
-  may_by_need x x' y y' px px' qy qy' xx yy below Ends kx ey ex l =
-      let is : IsEnd y.kind = subst IsEnd (sym ey) tt in
-      record {
-        time = λ t a b. absurd (omega (arith, qy.told is t (omega (arith, yy.stop, a)), px.begins, b));
-        room = λ s. omega (arith, below s, qy.all is, yy.number, tallies.has_cell);
-        empty = λ s e. absurd (end_not_miss y'.kind (yy.ends is) e);
-        opened = λ s e. absurd (end_not_miss y'.kind (yy.ends is) e);
-      }
+  may_by_need x x' y y' px px' qy qy' xx yy below ky kx ey ex l = grind (arith, at_most_or_above, end_not_miss)
 
   -- what precedes an operation that must precede y may precede each operation that does not precede y
   pub may :
-      (x x' : Op) (y y' : TakeOp) → PutFact h capacity events puts_begun puts_ended takes_ended x → PutFact h capacity events puts_begun puts_ended takes_ended x' →
+      (x x' : Op) (y y' : Op) → PutFact h capacity events puts_begun puts_ended takes_ended x → PutFact h capacity events puts_begun puts_ended takes_ended x' →
       TakeFact h events stored puts_ended takes_begun takes_ended y → TakeFact h events stored puts_ended takes_begun takes_ended y' →
-      GoesTo x x' → TakesTo y y' → (IsMove x.kind → x.number < stored) → Must h capacity x' y → May h capacity x y'
-  may x x' y y' px px' qy qy' xx yy below (inl l) = may_by_time x x' y y' px qy qy' xx yy l
-  may x x' y y' px px' qy qy' xx yy below (inr n) = may_by_need x x' y y' px px' qy qy' xx yy below y.kind x'.kind refl refl n
+      GoesTo x x' → GoesTo y y' → (IsMove x.kind → x.number < stored) → Must h capacity x' y → May h capacity x y'
+  may x x' y y' px px' qy qy' xx yy below h1 = grind (arith, may_by_time, may_by_need)

@@ -1,5 +1,5 @@
 -- Some of the items that a put is offered, and their words.
-use Rattle.std.proofs.Common.{◌≡◌, ◌⊎◌, inl, inr, ℕ, zero, suc, ◌+◌, ◌%◌, ◌<◌, ◌≤◌, Some, List, [], ◌∷◌, ◌++◌, length, take, refl, sym, ap, ◌∙◌, arith, append_assoc, append-nil}
+use Rattle.std.proofs.Common.{◌≡◌, ◌⊎◌, ℕ, zero, suc, ◌+◌, ◌%◌, ◌<◌, ◌≤◌, Some, List, [], ◌∷◌, ◌++◌, length, take, refl, sym, ap, ◌∙◌, arith, append_assoc, append-nil}
 use Rattle.std.specs.Prelude.{slice_get, slice_index_or}
 use Rattle.std.proofs.Math.Nat.{mod-add-mod}
 use Rattle.bits_core.specs.declared.shapes.Shape.{Shape}
@@ -8,7 +8,7 @@ use Rattle.bits_core.specs.Made.{Made}
 use Rattle.register_core.specs.Word.{word_write}
 use Rattle.ring_core.specs.Counts.{LeavesRoomFor, distance, number_past}
 use Rattle.ring_core.specs.Puts.{words_phrase, IsBatch}
-use Rattle.ring_core.specs.ProducerCalls.{room_in, HasSeen}
+use Rattle.ring_core.specs.ProducerCalls.{HasSeen}
 use Rattle.ring_core.proofs.CountRow.{past_is}
 
 -- ---- the first of some items
@@ -26,13 +26,10 @@ taken_few (x ∷ xs) zero = (omega arith, omega arith)
 taken_few (x ∷ xs) (suc m) = let r = taken_few xs m in (omega (arith, r.0), omega (arith, r.1))
 
 pub taken_some : (xs : List ℕ) (m : ℕ) → 1 ≤ m → 1 ≤ length xs → 1 ≤ length (take m xs)
-taken_some [] m l some = absurd (omega (arith, some))
-taken_some (x ∷ xs) zero l some = absurd (omega (arith, l))
-taken_some (x ∷ xs) (suc m) l some = omega arith
+taken_some xs m l some = grind arith
 
 pub taken_so : (xs : List ℕ) (m : ℕ) → m ≤ length xs → length (take m xs) ≡ m
-taken_so [] zero l = refl
-taken_so [] (suc m) l = absurd (omega (arith, l))
+taken_so [] m l = grind arith
 taken_so (x ∷ xs) zero l = refl
 taken_so (x ∷ xs) (suc m) l = ap suc (taken_so xs m (omega (arith, l)))
 
@@ -44,8 +41,7 @@ taken_fit shape (x ∷ xs) (suc m) fit = (fit.0, taken_fit shape xs m fit.1)
 
 -- some items of a batch are a batch
 pub taken_batch : (shape : Shape) (xs : List ℕ) (m : ℕ) → 1 ≤ m → IsBatch shape xs → IsBatch shape (take m xs)
-taken_batch shape xs m some batch =
-    record { some = taken_some xs m some batch.some; few = omega (arith, (taken_few xs m).1, batch.few); fit = taken_fit shape xs m batch.fit }
+taken_batch shape xs m some batch = grind (arith, taken_some, taken_few, taken_fit)
 
 -- each of a batch fits
 pub fits_at : (shape : Shape) (xs : List ℕ) (i item : ℕ) → AllFit shape xs → slice_get xs i ≡ Some item → AllFit shape (item ∷ [])
@@ -65,14 +61,7 @@ taken_at (x ∷ xs) (suc q) (suc i) l = taken_at xs q i (omega (arith, l))
 pub has_seen :
     (shape : Shape) (items : List ℕ) (most n seen : ℕ) → seen < modulus_of shape → LeavesRoomFor shape (n % modulus_of shape) seen most →
     (most ≡ length items) ⊎ (distance (modulus_of shape) (n % modulus_of shape) seen + most ≡ capacity_of shape) → HasSeen shape items most n seen
-has_seen shape items most n seen below room all = record { below = below; room = room; kept = by_most all }
-  where
-    by_most :
-        (most ≡ length items) ⊎ (distance (modulus_of shape) (n % modulus_of shape) seen + most ≡ capacity_of shape) →
-        take most items ≡ take (room_in shape (n % modulus_of shape) seen) items
-    by_most (inl e) =
-        take_all items most (omega (arith, e)) ∙ sym (take_all items (room_in shape (n % modulus_of shape) seen) (omega (arith, e, room)))
-    by_most (inr e) = ap (λ k. take k items) (omega (arith, e))
+has_seen shape items most n seen below room all = grind (arith, take_all)
 
 -- ---- words
 
@@ -81,16 +70,8 @@ pub words-take :
     (shape : Shape) (n : ℕ) (items : List ℕ) (i item : ℕ) → slice_get items i ≡ Some item →
     words_phrase shape n (take (suc i) items) ≡ words_phrase shape n (take i items) ++ word_write (width_of shape) ((n + i) % capacity_of shape) item
 words-take shape n [] i item e = absurd (cc)
-words-take shape n (x ∷ xs) zero item e =
-    let same : x ≡ item = cc in
-    let none : n ≡ n + 0 = omega arith in
-    append-nil (word_write (width_of shape) (n % capacity_of shape) x) ∙ ap (λ y. word_write (width_of shape) (n % capacity_of shape) y) same ∙
-    ap (λ k. word_write (width_of shape) (k % capacity_of shape) item) none
-words-take shape n (x ∷ xs) (suc i) item e =
-    let word : List Made = word_write (width_of shape) (n % capacity_of shape) x in
-    let numbers : suc n + i ≡ n + suc i = omega arith in
-    ap (λ l. word ++ l) (words-take shape (suc n) xs i item e) ∙ sym (append_assoc word (words_phrase shape (suc n) (take i xs)) _) ∙
-    ap (λ k. (word ++ words_phrase shape (suc n) (take i xs)) ++ word_write (width_of shape) (k % capacity_of shape) item) numbers
+words-take shape n (x ∷ xs) zero item e = grind (arith, append-nil)
+words-take shape n (x ∷ xs) (suc i) item e = grind (arith, append_assoc, words-take shape (suc n) xs i item e)
 
 -- the words before one, this one and those after it
 pub words-split :

@@ -7,8 +7,7 @@ use Rattle.bits_core.specs.Shape.{capacity_of, modulus_of, width_of}
 use Rattle.bits_core.specs.Made.{Made}
 use Rattle.register_core.specs.ScanState.{ScanState, scan_read, due_scan}
 use Rattle.register_core.specs.WordState.{ReaderState, ReaderStands, IsReadOf, IsItemRead, read_digit}
-use Rattle.register_core.specs.Row.{RowWrite, row_bit}
-use Rattle.register_core.specs.UnaryState.{UnaryState, due_unary, due_writes, first_access}
+use Rattle.register_core.specs.UnaryState.{UnaryState, due_unary}
 use Rattle.ring_core.specs.declared.consumers.Stage.{Stage}
 use Rattle.ring_core.specs.declared.consumers.Stage.TheVariants.{Scanning, Rescanning, Loading, Counting}
 use Rattle.ring_core.specs.Calls.{LastBitIsDue, IsScanning, IsCounted}
@@ -35,19 +34,13 @@ stays_one :
     row.side ≡ p.row.side → row.modulus ≡ p.row.modulus →
     ConsumerIsAt st (record p { stage = st; scan = scan; word = word; row = row; items = items; wanted = wanted; most = most }) →
     IsConsumer (record p { stage = st; scan = scan; word = word; row = row; items = items; wanted = wanted; most = most })
-stays_one p st scan word row items wanted most is side modulus at =
-    record { count_below = is.count_below; cell_below = is.cell_below; row_side = side ∙ is.row_side; row_modulus = modulus ∙ is.row_modulus; at = at }
+stays_one p st scan word row items wanted most is side modulus at = grind arith
 
 still_scans :
     (p : ConsumerState) (st : Stage) (s : ScanState) (answer : Bool) → IsConsumer p → p.stage ≡ st → consumer_due_at st p ≡ due_scan p.scan → AtScan p →
     (AtScan (record p { stage = st; scan = s }) → ConsumerIsAt st (record p { stage = st; scan = s })) → (LastBitIsDue p.shape C (due_take p) → answer ≡ true) →
     s ≡ scan_read p.scan answer → s.found ≡ false → IsConsumer (record p { scan = s })
-still_scans p st s answer is e due (counted, taking, fresh, scans) at_scan one fed open_still =
-    let due_scans : due_take p ≡ due_scan p.scan = ap (λ t. consumer_due_at t p) e ∙ due in
-    let one' : LastBitIsDue p.shape C (due_scan p.scan) → answer ≡ true = subst (λ d. LastBitIsDue p.shape C d → answer ≡ true) due_scans one in
-    stays_one p p.stage s p.word p.row p.items p.wanted p.most is refl refl
-    (subst (λ t. ConsumerIsAt t (record p { stage = t; scan = s })) (sym e)
-    (at_scan (counted, same_taking p st s p.word p.row p.items p.most taking, fresh, scanning p.shape C p.scan s answer scans one' fed open_still)))
+still_scans p st s answer is e due (counted, taking, fresh, scans) at_scan one fed open_still = grind (arith, stays_one, same_taking, scanning)
 
 -- a first scan that continues
 pub scan_keeps :
@@ -61,39 +54,10 @@ pub rescan_keeps :
     s ≡ scan_read p.scan answer → s.found ≡ false → IsConsumer (record p { scan = s })
 rescan_keeps p s answer is e = still_scans p Rescanning s answer is e refl (at_stage p Rescanning is e) (λ at. at)
 
--- a word being read
-loads_so :
-    (p : ConsumerState) (w : ReaderState) (items : List ℕ) → IsConsumer p → p.stage ≡ Loading → length items < p.most →
-    w.width ≡ width_of p.shape → w.cell ≡ (p.cell + length items) % capacity_of p.shape → w.read < w.width → IsConsumer (record p { word = w; items = items })
-loads_so p w items is e more width cell unread =
-    let (counted, taking, loads, less, few, rest) = at_stage p Loading is e in
-    stays_one p p.stage p.scan w p.row items p.wanted p.most is refl refl
-    (subst (λ st. ConsumerIsAt st (record p { stage = st; word = w; items = items })) (sym e)
-    (counted, same_taking p Loading p.scan w p.row items p.most taking, record { width_is = width; cell_is = cell }, more, few, unread))
-
--- a word read that continues
-pub word_stays :
-    (p : ConsumerState) (w : ReaderState) (answer : Bool) → IsConsumer p → p.stage ≡ Loading → w ≡ read_digit p.word answer → w.read < w.width →
-    IsConsumer (record p { word = w })
-word_stays p w answer is e fed more =
-    let (counted, taking, loads, less, few, unread) = at_stage p Loading is e in
-    loads_so p w p.items is e less (ap (λ (x : ReaderState). x.width) fed ∙ loads.width_is) (ap (λ (x : ReaderState). x.cell) fed ∙ loads.cell_is) more
-
--- the next word
-pub next_keeps :
-    (p : ConsumerState) (w : ReaderState) (items : List ℕ) → IsConsumer p → p.stage ≡ Loading → length items < p.most →
-    w ≡ record { width = width_of p.shape; cell = (p.cell + length items) % capacity_of p.shape; read = 0; value = 0 } →
-    IsConsumer (record p { word = w; items = items })
-next_keeps p w items is e more w_is =
-    loads_so p w items is e more (ap (λ (x : ReaderState). x.width) w_is) (ap (λ (x : ReaderState). x.cell) w_is)
-    (omega (arith, ap (λ (x : ReaderState). x.read) w_is, ap (λ (x : ReaderState). x.width) w_is, p.shape.has_digits))
-
 -- the last of the items is kept
 pub kept_size :
     (old : List ℕ) (item : ℕ) (items : List ℕ) (n most : ℕ) → items ≡ old ++ item ∷ [] → length old ≡ n → length old < most → most ≤ n + 1 → length items ≡ most
-kept_size old item items n most e len less last =
-    let long : length items ≡ length old + 1 = ap length e ∙ length-append old (item ∷ []) in
-    grind (arith, long, len, less, last)
+kept_size old item items n most e len less last = grind (arith, length-append)
 
 -- the words have been read, and the write of the count begins
 pub word_keeps :
@@ -113,23 +77,11 @@ word_keeps p w row items is e size begun =
 pub now_keeps :
     (p : ConsumerState) (row : UnaryState) (m : ℕ) → IsConsumer p → IsBetweenWords p → length p.items ≡ m →
     row ≡ record p.row { value = (p.count + m) % modulus_of p.shape } → IsConsumer (record p { stage = Counting; row = row; wanted = m; most = m })
-now_keeps p row m is between size begun =
-    let (counted, taking, loads, less, few, unread) = at_stage p Loading is between.stage_is in
-    stays_one p Counting p.scan p.word row p.items m m is (ap (λ (r : UnaryState). r.side) begun) (ap (λ (r : UnaryState). r.modulus) begun) (
-      counting_on p.shape p.row row p.count p.items m counted is.count_below (sym size) between.some (omega (arith, less, few, taking.few, take_batch_below p.shape)) begun,
-      record { not_told = taking.not_told; not_answered = taking.not_answered; some = omega (arith, size, between.some); few = omega (arith, size, less, few, taking.few) },
-      omega (arith, size, between.some),
-      size,
-      omega arith,
-    )
+now_keeps p row m is between size begun = grind (arith, at_stage, stays_one, counting_on, take_batch_below)
 
 -- the write of the count is of a bit of it
 pub first_bit : (row : UnaryState) → row.side ≡ C → due_unary row ≢ None → (i : ℕ) × (v : Bool) × (due_unary row ≡ Some (begins.Write (R i) v))
-first_bit row side some = by_writes (due_writes row) refl
-  where
-    by_writes : (ws : List RowWrite) → due_writes row ≡ ws → (i : ℕ) × (v : Bool) × (due_unary row ≡ Some (begins.Write (R i) v))
-    by_writes [] e = absurd (some (ap (first_access (row_bit row.side)) e))
-    by_writes (x ∷ ws) e = (x.bit, x.value, ap (first_access (row_bit row.side)) e ∙ ap (λ s. Some (begins.Write (row_bit s x.bit) x.value)) side)
+first_bit row side some = grind arith
 
 -- what the word machine read is its value
 pub word_whole :

@@ -8,7 +8,7 @@ use Rattle.bits_core.specs.declared.events.Access.TheVariants as begins
 use Rattle.bits_core.specs.declared.shapes.Shape.{Shape}
 use Rattle.bits_core.specs.Shape.{AllFit, capacity_of, modulus_of, take_batch_of, width_of}
 use Rattle.bits_core.specs.Made.{Made, Read, answered}
-use Rattle.register_core.specs.Word.{digit_reads, word_read}
+use Rattle.register_core.specs.Word.{word_read}
 use Rattle.register_core.specs.WordState.{ReaderState, ReaderStands, IsReadOf, due_read}
 use Rattle.register_core.specs.ScanState.{ScanState, ScanStands, scan_phrase, row_read_by, IsScanOf}
 use Rattle.register_core.specs.Unary.{count_writes}
@@ -21,7 +21,7 @@ use Rattle.ring_core.specs.Counts.{ShowsItem, distance, number_past, Count, firs
 use Rattle.ring_core.specs.Takes.{Take, Takes, Empty, Open, count_after, words_read, take_phrase, take_phrases, SeesNone, IsTake, AreTakes}
 use Rattle.ring_core.specs.ConsumerState.{ConsumerState, IsBetweenWords, due_take, consumer_due_at, is_taking, takes_at}
 use Rattle.ring_core.specs.Items.{taken_of}
-use Rattle.ring_core.specs.ConsumerCalls.{ConsumerStands, ConsumerMadeAt, Finding, Finds, Once, Twice, finding_phrase, made_of_take, count_taken, values_taken, AreItemsOfTake, ConsumerHasMoved, ConsumerMoves, items_reply, take_reply_to, and_take, and_end, HasTakeMore, IsTakeOf, IsOpenForTake, ends_closed, IsReplyToTake, IsAfterTake}
+use Rattle.ring_core.specs.ConsumerCalls.{ConsumerStands, ConsumerMadeAt, Finding, Finds, Once, Twice, finding_phrase, made_of_take, count_taken, values_taken, ConsumerHasMoved, ConsumerMoves, items_reply, take_reply_to, and_take, and_end, HasTakeMore, IsTakeOf, IsOpenForTake, ends_closed, IsAfterTake}
 use Rattle.ring_core.proofs.Machines.MachineParts.{GoesOn, ScanGoesOn, RowGoesOn, row_more, and_more, longer}
 use Rattle.ring_core.proofs.CountRow.{values_writes-push}
 use Rattle.ring_core.proofs.Readings.ByCalls.{takes_go_by_calls, state-push}
@@ -51,44 +51,24 @@ abbrev pub at_stage : ConsumerState → Stage → ScanState → ReaderState → 
 at_stage p st scan word row items most = record p { stage = st; scan = scan; word = word; row = row; items = items; most = most }
 
 after_on : (shape : Shape) (wanted : ℕ) (a b : Bool) (calls : Takes) → a ≡ true → b ≡ true → IsAfterTake shape wanted a b calls calls
-after_on shape wanted true true calls e f = refl
-after_on shape wanted true false calls e f = absurd (cc)
-after_on shape wanted false b calls e f = absurd (cc)
+after_on shape wanted a b calls e f = grind arith
 
 after_over : (shape : Shape) (wanted : ℕ) (a : Bool) (calls more : Takes) → a ≡ true → HasTakeMore shape wanted calls more → IsAfterTake shape wanted a false calls more
-after_over shape wanted true calls more e has = has
-after_over shape wanted false calls more e has = absurd (cc)
+after_over shape wanted a calls more e has = grind arith
 
 -- a take under way continues at a stage
 pub take_goes_on :
     (p : ConsumerState) (st now : Stage) (scan : ScanState) (word : ReaderState) (row : UnaryState) (items : List ℕ) (most : ℕ) (calls : Takes) (made more : List Made) →
     p.stage ≡ st → takes_at st ≡ true → takes_at now ≡ true → ConsumerStands p calls made →
     ConsumerMadeAt now (at_stage p now scan word row items most) calls more → ConsumerHasMoved p (at_stage p now scan word row items most) calls more
-take_goes_on p st now scan word row items most calls made more e before after stands made_is =
-    let was : is_taking p ≡ true = ap takes_at e ∙ before in
-    let same : is_taking p ≡ takes_at now = was ∙ sym after in (
-      calls,
-      record {
-        are = stands.are;
-        count_is = stands.count_is;
-        cell_is = stands.cell_is;
-        told_is = stands.told_is;
-        not_over = subst (λ b. IsOpenForTake b calls) same stands.not_over;
-        reply_is = subst (λ b. IsReplyToTake calls b p.reply) same stands.reply_is;
-        items_are = subst (λ b. AreItemsOfTake calls b items) (sym after) tt;
-        made_is = made_is;
-      },
-      after_on p.shape p.wanted (is_taking p) (takes_at now) calls was after,
-    )
+take_goes_on p st now scan word row items most calls made more e before after stands made_is = grind (arith, after_on)
 
 -- and at the stage that it is at
 take_stays :
     (p : ConsumerState) (st : Stage) (scan : ScanState) (word : ReaderState) (row : UnaryState) (items : List ℕ) (calls : Takes) (made more : List Made) →
     p.stage ≡ st → takes_at st ≡ true → ConsumerStands p calls made → ConsumerMadeAt st (at_stage p st scan word row items p.most) calls more →
     ConsumerHasMoved p (at_stage p p.stage scan word row items p.most) calls more
-take_stays p st scan word row items calls made more e takes stands made_is =
-    subst (λ s. ConsumerHasMoved p (at_stage p s scan word row items p.most) calls more) (sym e)
-    (take_goes_on p st st scan word row items p.most calls made more e takes takes stands made_is)
+take_stays p st scan word row items calls made more e takes stands made_is = grind (arith, take_goes_on)
 
 -- ---- a take is over
 
@@ -131,8 +111,7 @@ take_over p st x reply count cell scan word row calls made more e before stands 
 
 -- nothing is read yet
 begun_none : (shape : Shape) (n : ℕ) (look : Finding) (items : List ℕ) → items ≡ [] → finding_phrase look ≡ made_of_take shape n look items ++ []
-begun_none shape n look items e =
-    sym (ap (λ xs. made_of_take shape n look xs ++ []) e ∙ append-nil (finding_phrase look ++ []) ∙ append-nil (finding_phrase look))
+begun_none shape n look items e = grind (arith, append-nil)
 
 none_fit : (shape : Shape) (items : List ℕ) → items ≡ [] → AllFit shape items
 none_fit shape items e = subst (AllFit shape) (sym e) tt
@@ -141,10 +120,7 @@ none_fit shape items e = subst (AllFit shape) (sym e) tt
 
 -- it continues
 pub scan_on : (p : ConsumerState) (s : ScanState) (answer : Bool) → p.stage ≡ Scanning → ScanGoesOn p.scan s answer → ConsumerMoves p answer (record p { scan = s })
-scan_on p s answer e goes calls made access stands due =
-    let (rests, reads, scans, made_is) = made_at Scanning p calls made e stands in
-    take_stays p Scanning s p.word p.row p.items calls made _ e refl stands
-    (rests, reads ++ answered access answer ∷ [], goes reads access scans (due_is Scanning p access e due), and_more _ _ _ _ made_is)
+scan_on p s answer e goes calls made access stands due = grind (arith, made_at, take_stays, due_is, and_more, append_assoc, append-nil)
 
 -- it shows an item
 pub scan_item :
@@ -156,7 +132,6 @@ scan_item p s w answer seen most fresh enough wants all e goes gives word_stands
     let (rests, reads, scans, made_is) = made_at Scanning p calls made e stands in
     let x : List Made = answered access answer ∷ [] in
     let front : List Made = take_phrases p.shape first_count calls.takes in
-    let scan : List Made = scan_phrase (row_read_by C) seen in
     let (below, reads_are) = gives (reads ++ x) (goes reads access scans (due_is Scanning p access e due)) in
     let (few, room) = subst (λ k. (most ≤ distance (modulus_of p.shape) seen k) × (distance (modulus_of p.shape) seen k ≤ capacity_of p.shape)) stands.count_is (enough, shows.1) in
     take_goes_on p Scanning Loading s w p.row p.items most calls made (made ++ x) e refl refl stands (
@@ -177,41 +152,19 @@ pub scan_none :
 scan_none p s answer seen e goes gives none calls made access stands due =
     let (rests, reads, scans, made_is) = made_at Scanning p calls made e stands in
     let x : List Made = answered access answer ∷ [] in
-    let front : List Made = take_phrases p.shape first_count calls.takes in
     let (below, reads_are) = gives (reads ++ x) (goes reads access scans (due_is Scanning p access e due)) in
-    take_goes_on p Scanning Checking s p.word p.row p.items p.most calls made (made ++ x) e refl refl stands (
-      rests,
-      seen,
-      (below, λ shows. none (subst (λ k. ShowsItem p.shape seen k) (sym stands.count_is) shows)),
-      ap (λ l. l ++ x) made_is ∙ append_assoc front reads x ∙ ap (λ l. front ++ l) reads_are,
-    )
+    grind (arith, take_goes_on, append_assoc)
 
 -- ---- the close bit
 
 read_x : (access : Access) (answer v : Bool) → Some (begins.Read X) ≡ Some access → answer ≡ v → answered access answer ≡ Read X v
-read_x access answer v due e =
-    let same : begins.Read X ≡ access = cc in
-    ap (λ a. answered a answer) (sym same) ∙ ap (λ b. Read X b) e
+read_x access answer v due e = grind arith
 
 -- it is 1, and the second scan begins
 pub check_one :
     (p : ConsumerState) (s : ScanState) (answer : Bool) → p.stage ≡ Checking → ScanStands s [] → answer ≡ true →
     ConsumerMoves p answer (at_stage p Rescanning s p.word p.row p.items p.most)
-check_one p s answer e scan_stands one calls made access stands due =
-    let (rests, seen, sees, made_is) = made_at Checking p calls made e stands in
-    let x : List Made = answered access answer ∷ [] in
-    let front : List Made = take_phrases p.shape first_count calls.takes in
-    let scan : List Made = scan_phrase (row_read_by C) seen in
-    let x_is : answered access answer ≡ Read X true = read_x access answer true (due_is Checking p access e due) one in
-    take_goes_on p Checking Rescanning s p.word p.row p.items p.most calls made (made ++ x) e refl refl stands (
-      rests,
-      seen,
-      sees,
-      [],
-      scan_stands,
-      ap (λ l. l ++ x) made_is ∙ append_assoc front scan x ∙ ap (λ y. front ++ (scan ++ y ∷ [])) x_is ∙
-          ap (λ l. front ++ l) (sym (append-nil (scan ++ Read X true ∷ []))),
-    )
+check_one p s answer e scan_stands one calls made access stands due = grind (arith, made_at, read_x, due_is, take_goes_on, append_assoc, append-nil)
 
 -- it is 0, and the ring was empty
 pub check_zero :
@@ -232,27 +185,13 @@ check_zero p answer fresh e none calls made access stands due =
 
 -- it continues
 pub rescan_on : (p : ConsumerState) (s : ScanState) (answer : Bool) → p.stage ≡ Rescanning → ScanGoesOn p.scan s answer → ConsumerMoves p answer (record p { scan = s })
-rescan_on p s answer e goes calls made access stands due =
-    let (rests, seen, sees, reads, scans, made_is) = made_at Rescanning p calls made e stands in
-    let x : List Made = answered access answer ∷ [] in
-    take_stays p Rescanning s p.word p.row p.items calls made (made ++ x) e refl stands (
-      rests,
-      seen,
-      sees,
-      reads ++ x,
-      goes reads access scans (due_is Rescanning p access e due),
-      ap (λ l. l ++ x) made_is ∙ longer (take_phrases p.shape first_count calls.takes) (scan_phrase (row_read_by C) seen ++ Read X true ∷ []) reads x,
-    )
+rescan_on p s answer e goes calls made access stands due = grind (arith, made_at, take_stays, due_is, longer)
 
 -- the accesses once it has ended
 two_scans :
     (front reads made x : List Made) (seen again : ℕ) → made ≡ front ++ ((scan_phrase (row_read_by C) seen ++ Read X true ∷ []) ++ reads) →
     reads ++ x ≡ scan_phrase (row_read_by C) again → made ++ x ≡ front ++ finding_phrase (Twice seen again)
-two_scans front reads made x seen again made_is reads_are =
-    let scan : List Made = scan_phrase (row_read_by C) seen in
-    ap (λ l. l ++ x) made_is ∙ longer front (scan ++ Read X true ∷ []) reads x ∙
-    ap (λ l. front ++ ((scan ++ Read X true ∷ []) ++ l)) reads_are ∙
-    ap (λ l. front ++ l) (append_assoc scan (Read X true ∷ []) (scan_phrase (row_read_by C) again))
+two_scans front reads made x seen again made_is reads_are = grind (arith, longer, append_assoc)
 
 -- it shows an item
 pub rescan_item :
@@ -314,18 +253,7 @@ WordGoesOn = GoesOn ReaderStands due_read
 
 -- it continues
 pub word_on : (p : ConsumerState) (w : ReaderState) (answer : Bool) → p.stage ≡ Loading → WordGoesOn p.word w answer → ConsumerMoves p answer (record p { word = w })
-word_on p w answer e goes calls made access stands due =
-    let (rests, look, finds, fit, reads, words, made_is) = made_at Loading p calls made e stands in
-    let x : List Made = answered access answer ∷ [] in
-    take_stays p Loading p.scan w p.row p.items calls made (made ++ x) e refl stands (
-      rests,
-      look,
-      finds,
-      fit,
-      reads ++ x,
-      goes reads access words (due_is Loading p access e due),
-      ap (λ l. l ++ x) made_is ∙ longer (take_phrases p.shape first_count calls.takes) (made_of_take p.shape (count_taken p.shape calls).number look p.items) reads x,
-    )
+word_on p w answer e goes calls made access stands due = grind (arith, made_at, take_stays, due_is, longer)
 
 -- the accesses made, once the word under way is whole
 whole_words :
@@ -369,8 +297,7 @@ word_next p w new answer item items e goes whole items_are begins calls made acc
       begins,
       whole_words p calls look front reads x made item stands.cell_is made_is all,
     ) in
-    subst (λ l. ConsumerHasMoved p (record p { word = new; items = l }) calls (made ++ x)) (sym items_are)
-    (subst (λ st. ConsumerHasMoved p (at_stage p st p.scan new p.row (p.items ++ item ∷ []) p.most) calls (made ++ x)) (sym e) moved)
+    grind arith
 
 -- the last word is over, and the count's write begins
 pub word_over :
@@ -387,10 +314,8 @@ word_over p w row answer item items e goes whole items_are size begins_row calls
     let values : List ℕ = values_taken p.shape calls in
     let all_items : List ℕ = p.items ++ item ∷ [] in
     let (fits, all) = whole (reads ++ x) (goes reads access words (due_is Loading p access e due)) in
-    let value : (p.count + p.most) % modulus_of p.shape ≡ number_past n all_items % modulus_of p.shape =
-    past_so p.count n (modulus_of p.shape) all_items p.most stands.count_is (ap length (sym items_are) ∙ size) in
-    let row_begins : UnaryStands row (values ++ number_past n all_items % modulus_of p.shape ∷ []) (count_writes C values) =
-    subst (λ v. UnaryStands row (values ++ v ∷ []) (count_writes C values)) value (begins_row values (count_writes C values) rests) in
+    let value : (p.count + p.most) % modulus_of p.shape ≡ number_past n all_items % modulus_of p.shape = grind (arith, past_so) in
+    let row_begins : UnaryStands row (values ++ number_past n all_items % modulus_of p.shape ∷ []) (count_writes C values) = grind arith in
     let moved : ConsumerHasMoved p (at_stage p Counting p.scan w row all_items p.most) calls (made ++ x) =
     take_goes_on p Loading Counting p.scan w row all_items p.most calls made (made ++ x) e refl refl stands (
       look,
@@ -404,61 +329,20 @@ word_over p w row answer item items e goes whole items_are size begins_row calls
 
 -- what shows items to a take shows fewer to one that asks for fewer
 fewer : (shape : Shape) (k wanted : ℕ) (look : Finding) (most m : ℕ) → m ≤ most → Finds shape k wanted look most → Finds shape k m look m
-fewer shape k wanted (Once seen) most m few ((below, shows, room), all) = ((below, omega (arith, few, shows), room), (omega arith, inl refl))
-fewer shape k wanted (Twice seen again) most m few (none, (below, shows, room), all) = (none, (below, omega (arith, few, shows), room), (omega arith, inl refl))
+fewer shape k wanted look most m few h1 = grind arith
 
 -- between words, the write that counts those read begins
 pub now_counts :
     (p : ConsumerState) (row : UnaryState) (m : ℕ) → IsBetweenWords p → length p.items < p.most → length p.items ≡ m →
     ((values : List ℕ) (made : List Made) → UnaryStands p.row values made → UnaryStands row (values ++ (p.count + m) % modulus_of p.shape ∷ []) made) →
     (calls : Takes) (made : List Made) → ConsumerStands p calls made → ConsumerStands (record p { stage = Counting; row = row; wanted = m; most = m }) calls made
-now_counts p row m between less size begins_row calls made stands =
-    let (rests, look, finds, fit, reads, words, made_is) = made_at Loading p calls made between.stage_is stands in
-    let n : ℕ = (count_taken p.shape calls).number in
-    let front : List Made = take_phrases p.shape first_count calls.takes in
-    let values : List ℕ = values_taken p.shape calls in
-    let none : reads ≡ [] = words.made_is ∙ ap (digit_reads p.word.cell p.word.value) between.unread in
-    let value : (p.count + m) % modulus_of p.shape ≡ number_past n p.items % modulus_of p.shape =
-    past_so p.count n (modulus_of p.shape) p.items m stands.count_is size in
-    let row_begins : UnaryStands row (values ++ number_past n p.items % modulus_of p.shape ∷ []) (count_writes C values) =
-    subst (λ v. UnaryStands row (values ++ v ∷ []) (count_writes C values)) value (begins_row values (count_writes C values) rests) in
-    record {
-      are = stands.are;
-      count_is = stands.count_is;
-      cell_is = stands.cell_is;
-      told_is = stands.told_is;
-      not_over = open_at Loading p calls made between.stage_is stands;
-      reply_is = subst (λ s. IsReplyToTake calls (takes_at s) p.reply) between.stage_is stands.reply_is;
-      items_are = tt;
-      made_is = (
-        look,
-        fewer p.shape n p.wanted look p.most m (omega (arith, size, less)) finds,
-        fit,
-        [],
-        subst (λ l. UnaryStands row (values ++ number_past n p.items % modulus_of p.shape ∷ []) l) (sym (append-nil (count_writes C values))) row_begins,
-        made_is ∙ ap (λ l. front ++ (made_of_take p.shape n look p.items ++ l)) none,
-      );
-    }
+now_counts p row m between less size begins_row calls made stands = grind (arith, made_at, past_so, open_at, fewer, append-nil)
 
 -- ---- the count
 
 -- its write continues
 pub count_on : (p : ConsumerState) (row : UnaryState) (answer : Bool) → p.stage ≡ Counting → RowGoesOn p.row row answer → ConsumerMoves p answer (record p { row = row })
-count_on p row answer e goes calls made access stands due =
-    let (look, finds, fit, writes, rows, made_is) = made_at Counting p calls made e stands in
-    let x : List Made = answered access answer ∷ [] in
-    let n : ℕ = (count_taken p.shape calls).number in
-    let values : List ℕ = values_taken p.shape calls ++ number_past n p.items % modulus_of p.shape ∷ [] in
-    let old : List Made = count_writes C (values_taken p.shape calls) in
-    let rows' : UnaryStands row values (old ++ (writes ++ x)) = row_more p.row row answer values old writes access goes rows (due_is Counting p access e due) in
-    take_stays p Counting p.scan p.word row p.items calls made (made ++ x) e refl stands (
-      look,
-      finds,
-      fit,
-      writes ++ x,
-      rows',
-      ap (λ l. l ++ x) made_is ∙ longer (take_phrases p.shape first_count calls.takes) (made_of_take p.shape n look p.items) writes x,
-    )
+count_on p row answer e goes calls made access stands due = grind (arith, made_at, row_more, due_is, take_stays, longer)
 
 -- its write is over, and so is the take
 pub count_over :

@@ -7,7 +7,7 @@ use Rattle.bits_core.specs.declared.events.Bit.TheVariants.{X, Cell}
 use Rattle.bits_core.specs.declared.events.Access.{Access}
 use Rattle.bits_core.specs.declared.events.Access.TheVariants as begins
 use Rattle.bits_core.specs.declared.shapes.Shape.{Shape}
-use Rattle.bits_core.specs.Shape.{belongs, capacity_of, modulus_of, take_batch_of, width_of}
+use Rattle.bits_core.specs.Shape.{capacity_of, modulus_of, take_batch_of, width_of}
 use Rattle.bits_core.specs.Open.{IsOpenRight}
 use Rattle.bits_core.specs.Made.{Made, Read, answered, IsPrefix}
 use Rattle.register_core.specs.Machine.{IsNext}
@@ -103,10 +103,7 @@ begins_end shape wanted calls made part seen again are o none none' made_is (res
     )
 
 shows_or_none : (shape : Shape) (c k : ℕ) → ShowsItem shape c k ⊎ (ShowsItem shape c k → ⊥)
-shows_or_none shape c k = between_or_not (distance (modulus_of shape) c k) (capacity_of shape)
-  where
-    between_or_not : (a b : ℕ) → ((0 < a) × (a ≤ b)) ⊎ ((0 < a) × (a ≤ b) → ⊥)
-    between_or_not a b = grind arith
+shows_or_none shape c k = grind arith
 
 -- accesses that start the first scan of a take
 begins_scan :
@@ -297,17 +294,7 @@ read_due r l = grind (arith, nat_tests)
 pub word_right :
     (p : ConsumerState) (due : Option Access) → IsLoading p → p.word.read < p.word.width → due ≡ due_read p.word →
     IfSome due (IsOpenRight p.shape C)
-word_right p due loads more due_is =
-    subst (λ d. IfSome d (IsOpenRight p.shape C)) (sym (due_is ∙ read_due p.word more)) (in_shape cell_below digit_below, refl)
-  where
-    cell_below : p.word.cell < capacity_of p.shape
-    cell_below = subst (λ j. j < capacity_of p.shape) (sym loads.cell_is) (mod-lt (p.cell + length p.items) p.shape.has_cells)
-
-    digit_below : p.word.read < width_of p.shape
-    digit_below = subst (λ n. p.word.read < n) loads.width_is more
-
-    in_shape : p.word.cell < capacity_of p.shape → p.word.read < width_of p.shape → belongs p.shape (Cell p.word.cell p.word.read) ≡ true
-    in_shape a b = grind (arith, nat_tests)
+word_right p due loads more due_is = grind (arith, read_due, mod-lt, nat_tests)
 
 -- the accesses of a take of items, of one, and of others after it
 one_more :
@@ -316,16 +303,7 @@ one_more :
     (word_read (width_of shape) ((c.number + length items) % capacity_of shape) item ++
     (words_read shape (suc (c.number + length items)) later ++ batch_phrase shape C c (items ++ item ∷ later))) ≡
     finding_phrase look ++ items_phrase shape c (items ++ item ∷ later)
-one_more shape c look items item later =
-    let scans : List Made = finding_phrase look in
-    let words : List Made = words_read shape c.number items in
-    let word : List Made = word_read (width_of shape) ((c.number + length items) % capacity_of shape) item in
-    let behind : List Made = words_read shape (suc (c.number + length items)) later in
-    let count : List Made = batch_phrase shape C c (items ++ item ∷ later) in
-    append_assoc scans words (word ++ (behind ++ count)) ∙
-    ap (λ l. scans ++ l)
-    (ap (λ l. words ++ l) (sym (append_assoc word behind count)) ∙ sym (append_assoc words (word ++ behind) count) ∙
-    ap (λ l. l ++ count) (sym (words_read-append shape c.number items (item ∷ later))))
+one_more shape c look items item later = grind (arith, append_assoc, words_read-append)
 
 -- the word
 pub next_word :

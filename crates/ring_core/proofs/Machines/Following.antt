@@ -1,5 +1,5 @@
 -- A side that has made a prefix of the accesses of calls follows these calls.
-use Rattle.std.proofs.Common.{◌≡◌, ◌*◌, List, [], ◌∷◌, ◌++◌, length, refl, sym, ap, ◌∙◌, arith, append_assoc}
+use Rattle.std.proofs.Common.{◌≡◌, ◌*◌, List, [], ◌∷◌, ◌++◌, length, refl, ap, arith, append_assoc}
 use Rattle.bits_core.specs.declared.events.Side.{Side}
 use Rattle.bits_core.specs.declared.events.Side.TheVariants.{P, C}
 use Rattle.bits_core.specs.declared.events.Event.{Event}
@@ -18,10 +18,7 @@ length-events s (x ∷ xs) = omega (arith, length-events s xs)
 
 -- a prefix of the events of a prefix is a prefix of the events of the whole
 through : (s : Side) (es : List Event) (made whole : List Made) → IsPrefix made whole → IsPrefix es (events_of s made) → IsPrefix es (events_of s whole)
-through s es made whole (more, e) (rest, f) = (
-  rest ++ events_of s more,
-  sym (append_assoc es rest (events_of s more)) ∙ ap (λ l. l ++ events_of s more) f ∙ sym (events_of-append s made more) ∙ ap (events_of s) e,
-)
+through s es made whole (more, e) (rest, f) = grind (arith, append_assoc es rest (events_of s more), events_of-append s made more)
 
 pub puts-are_followed : PutsAreFollowed
 puts-are_followed shape h calls made are begins events = record { are = are; events = through P _ made _ begins events }

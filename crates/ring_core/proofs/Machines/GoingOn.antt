@@ -5,16 +5,14 @@ use Rattle.bits_core.specs.declared.events.Bit.{Bit}
 use Rattle.bits_core.specs.declared.events.Bit.TheVariants.{X, Cell}
 use Rattle.bits_core.specs.declared.events.Side.TheVariants.{P, C}
 use Rattle.bits_core.specs.declared.events.Access.{Access}
-use Rattle.bits_core.specs.declared.events.Access.TheVariants as begins
 use Rattle.bits_core.specs.declared.shapes.Shape.{Shape}
-use Rattle.bits_core.specs.Shape.{capacity_of, modulus_of, width_of}
+use Rattle.bits_core.specs.Shape.{modulus_of}
 use Rattle.bits_core.specs.Made.{Made, Read, access_of, answered, IsPrefix}
 use Rattle.register_core.specs.Word.{digit, digit_reads}
 use Rattle.register_core.specs.ScanState.{zero_reads, scan_phrase, row_read_by}
-use Rattle.ring_core.specs.Counts.{ShowsItem, distance, number_past, Count, first_count, batch_phrase}
-use Rattle.register_core.specs.Phrases.{word_read, row_bit, writes_in, unary_phrase}
+use Rattle.ring_core.specs.Counts.{Count, first_count, batch_phrase}
 use Rattle.ring_core.proofs.CountRow.{past_is}
-use Rattle.ring_core.specs.Puts.{Puts, Stored, Full, words_phrase, put_phrase, put_phrases, put_program, IsPut}
+use Rattle.ring_core.specs.Puts.{Stored, Full, words_phrase, put_phrase, put_phrases, put_program}
 use Rattle.ring_core.specs.Puts as puts
 use Rattle.ring_core.specs.Takes.{Take, Takes, Item, ItemAfterClose, Empty, Closed, words_read, items_phrase, take_phrase, take_phrases, end_phrase, take_program, IsTake, SeesItems, SeesNone, AreTakes}
 use Rattle.ring_core.specs.ProducerState.{Put, Close}
@@ -53,33 +51,20 @@ alike-next [] rest rest' x y alike = alike.0
 alike-next (z ∷ made) rest rest' x y alike = alike-next made rest rest' x y (alike.1 refl)
 
 pub access_back : (a : Access) (answer : Bool) → access_of (answered a answer) ≡ a
-access_back (begins.Read b) answer = refl
-access_back (begins.Write b v) answer = refl
+access_back a answer = grind arith
 
 -- accesses that start two lists which ask alike
 same_next :
     (made xs ys : List Made) (a b : Access) → AskAlike xs ys → IsPrefix (made ++ answered a true ∷ []) xs → IsPrefix (made ++ answered b true ∷ []) ys → a ≡ b
-same_next made xs ys a b alike (rest, e) (rest', e') =
-    sym (access_back a true) ∙
-    alike-next made rest rest' (answered a true) (answered b true) (subst (λ l. AskAlike l ((made ++ answered b true ∷ []) ++ rest')) (sym e) (subst (λ l. AskAlike xs l) (sym e') alike)) ∙
-    access_back b true
+same_next made xs ys a b alike (rest, e) (rest', e') = grind (arith, access_back, alike-next)
 
 -- ---- scans
 
 -- a scan that continues past bit c has read a 0 there
 past_bit : (row : ℕ → Bit) (c more : ℕ) → (rest : List Made) × (zero_reads row (suc (c + more)) ≡ zero_reads row c ++ Read (row c) false ∷ rest)
-past_bit row c zero = subst (λ n. (rest : List Made) × (zero_reads row (suc n) ≡ zero_reads row c ++ Read (row c) false ∷ rest)) (zero_more c) ([], refl)
-  where
-    zero_more : (c : ℕ) → c ≡ c + 0
-    zero_more c = omega arith
+past_bit row c zero = grind arith
 past_bit row c (suc more) =
-    let (rest, e) = past_bit row c more in
-    let last : List Made = Read (row (suc (c + more))) false ∷ [] in
-    subst (λ n. (rest : List Made) × (zero_reads row (suc n) ≡ zero_reads row c ++ Read (row c) false ∷ rest)) (one_more c more)
-    (rest ++ last, ap (λ l. l ++ last) e ∙ append_assoc (zero_reads row c) (Read (row c) false ∷ rest) last)
-  where
-    one_more : (c more : ℕ) → suc (c + more) ≡ c + suc more
-    one_more c more = omega arith
+    grind (arith, past_bit row c more, append_assoc (zero_reads row c) (Read (row c) false ∷ ((past_bit row c more).0)) (Read (row (suc (c + more))) false ∷ []))
 
 scan_past : (row : ℕ → Bit) (c d : ℕ) (ys : List Made) → c < d → (rest : List Made) × (scan_phrase row d ++ ys ≡ zero_reads row c ++ Read (row c) false ∷ rest)
 scan_past row c d ys l =
@@ -182,13 +167,7 @@ words_alike :
 words_alike shape n [] [] xs ys e alike = alike
 words_alike shape n [] (b ∷ vs) xs ys e alike = absurd (omega (arith, e))
 words_alike shape n (a ∷ us) [] xs ys e alike = absurd (omega (arith, e))
-words_alike shape n (a ∷ us) (b ∷ vs) xs ys e alike =
-    let cell : ℕ = n % capacity_of shape in
-    let more : List Made = words_read shape (suc n) us in
-    let more' : List Made = words_read shape (suc n) vs in
-    subst (λ l. AskAlike l ((word_read (width_of shape) cell b ++ more') ++ ys)) (sym (append_assoc (word_read (width_of shape) cell a) more xs))
-    (subst (λ l. AskAlike (word_read (width_of shape) cell a ++ (more ++ xs)) l) (sym (append_assoc (word_read (width_of shape) cell b) more' ys))
-    (digits_alike cell a b (width_of shape) (more ++ xs) (more' ++ ys) (words_alike shape (suc n) us vs xs ys (omega (arith, e)) alike)))
+words_alike shape n (a ∷ us) (b ∷ vs) xs ys e alike = grind (arith, append_assoc, digits_alike, words_alike shape (suc n) us vs xs ys (omega (arith, e)) alike)
 
 -- what a take makes after its scans: for items, their words and the count; otherwise the read of the close bit, and the rest
 abbrev TakesSome : Shape → Count → ℕ → List Made → Type 0
@@ -208,29 +187,13 @@ LooksOnce shape k wanted phrase =
     (((m : ℕ) × Shows shape k.number wanted seen m × TakesSome shape k m rest) ⊎ (SeesNone shape k.number seen × ((rest ≡ Read X false ∷ []) ⊎ LooksAgain shape k wanted rest)))
 
 some_alike : (shape : Shape) (k : Count) (m m' : ℕ) (xs ys : List Made) → m ≡ m' → TakesSome shape k m xs → TakesSome shape k m' ys → AskAlike xs ys
-some_alike shape k m m' xs ys same (us, la, e) (vs, lb, f) =
-    let long : length us ≡ length vs = la ∙ same ∙ sym lb in
-    let past : number_past k.number us ≡ number_past k.number vs = omega (arith, past_is k.number us, past_is k.number vs, long) in
-    let counts : batch_phrase shape C k us ≡ batch_phrase shape C k vs =
-    ap (λ v. writes_in (row_bit C) (unary_phrase k.bits (v % modulus_of shape))) past in
-    subst (λ l. AskAlike l ys) (sym e)
-    (subst (λ l. AskAlike (items_phrase shape k us) l) (sym f)
-    (words_alike shape k.number us vs (batch_phrase shape C k us) (batch_phrase shape C k vs) long (alike-equal (batch_phrase shape C k us) (batch_phrase shape C k vs) counts)))
+some_alike shape k m m' xs ys same (us, la, e) (vs, lb, f) = grind (arith, past_is, words_alike, alike-equal)
 
 pub same_many : (shape : Shape) (k wanted c d m m' : ℕ) → c ≡ d → Shows shape k wanted c m → Shows shape k wanted d m' → m ≡ m'
-same_many shape k wanted c d m m' same (some, (below, few, room), (less, all)) (some', (below', few', room'), (less', all')) =
-    which m m' wanted (distance (modulus_of shape) c (k % modulus_of shape)) (distance (modulus_of shape) d (k % modulus_of shape))
-    (ap (λ n. distance (modulus_of shape) n (k % modulus_of shape)) same) few few' less less' all all'
-  where
-    which : (m m' w a b : ℕ) → a ≡ b → m ≤ a → m' ≤ b → m ≤ w → m' ≤ w → (m ≡ w) ⊎ (m ≡ a) → (m' ≡ w) ⊎ (m' ≡ b) → m ≡ m'
-    which m m' w a b e f g h i (inl x) (inl y) = omega (arith, x, y)
-    which m m' w a b e f g h i (inl x) (inr y) = omega (arith, e, f, g, h, i, x, y)
-    which m m' w a b e f g h i (inr x) (inl y) = omega (arith, e, f, g, h, i, x, y)
-    which m m' w a b e f g h i (inr x) (inr y) = omega (arith, e, x, y)
+same_many shape k wanted c d m m' same (some, (below, few, room), (less, all)) (some', (below', few', room'), (less', all')) = grind arith
 
 pub clash : (shape : Shape) (k wanted seen seen' m : ℕ) → seen ≡ seen' → Shows shape k wanted seen m → SeesNone shape k seen' → ⊥
-clash shape k wanted seen seen' m same (some, (below, few, room), all) none =
-    none.1 (subst (λ n. ShowsItem shape n (k % modulus_of shape)) same (omega (arith, some, few), room))
+clash shape k wanted seen seen' m same (some, (below, few, room), all) none = grind arith
 
 again_alike : (shape : Shape) (k : Count) (wanted : ℕ) (xs ys : List Made) → LooksAgain shape k wanted xs → LooksAgain shape k wanted ys → AskAlike xs ys
 again_alike shape k wanted xs ys (c, last, e, sees) (d, last', f, sees') =
@@ -252,9 +215,7 @@ once_alike shape k wanted xs ys (c, rest, e, sees) (d, rest', f, sees') =
     asked : (rest ≡ Read X false ∷ []) ⊎ LooksAgain shape k wanted rest → (rest' ≡ Read X false ∷ []) ⊎ LooksAgain shape k wanted rest' → AskAlike rest rest'
     asked (inl e) (inl f) = alike-equal rest rest' (e ∙ sym f)
     asked (inl e) (inr (again, last, f, sees)) = subst (λ l. AskAlike l rest') (sym e) (subst (λ l. AskAlike (Read X false ∷ []) l) (sym f) (refl, (λ x. tt)))
-    asked (inr (again, last, e, sees)) (inl f) =
-        let more : List Made = scan_phrase (row_read_by C) again ++ last in
-        subst (λ l. AskAlike l rest') (sym e) (subst (λ l. AskAlike (Read X true ∷ more) l) (sym f) (refl, (λ x. alike-none more)))
+    asked (inr (again, last, e, sees)) (inl f) = grind (arith, alike-none)
     asked (inr looks) (inr looks') = again_alike shape k wanted rest rest' looks looks'
 
     behind :

@@ -1,5 +1,5 @@
 -- How many accesses the phrases of a call have.
-use Rattle.std.proofs.Common.{◌≡◌, ℕ, zero, suc, ◌+◌, ◌*◌, ◌%◌, ◌≤◌, true, false, List, [], ◌∷◌, ◌++◌, length, refl, ap, arith, ◌∙◌, length-append}
+use Rattle.std.proofs.Common.{◌≡◌, ℕ, suc, ◌+◌, ◌*◌, ◌%◌, ◌≤◌, true, false, List, [], ◌∷◌, ◌++◌, length, refl, ap, arith, ◌∙◌, length-append}
 use Rattle.std.proofs.lemmas.List.{length-map}
 use Rattle.std.proofs.Math.Nat.{suc-mul, mul-le-mul_right}
 use Rattle.bits_core.specs.declared.events.Side.TheVariants.{P, C}
@@ -34,8 +34,7 @@ length-word_read width cell item = length-digit_reads cell item width
 
 -- the bound of several items is no lower than that of one
 longest_least : (shape : Shape) (n : ℕ) → longest_take shape ≤ longest_taking shape (suc (suc n))
-longest_least shape n =
-    omega (arith, suc-mul (suc n) (width_of shape), suc-mul n (width_of shape), shape.has_cells, shape.has_batch, shape.room_to_count)
+longest_least shape n = grind (arith, suc-mul)
 
 -- ---- calls
 
@@ -45,9 +44,7 @@ words-long :
     ((n item : ℕ) (items : List ℕ) → words n (item ∷ items) ≡ word n item ++ words (suc n) items) → ((n item : ℕ) → length (word n item) ≡ w) →
     (n : ℕ) (items : List ℕ) → length (words n items) ≡ length items * w
 words-long words word w none more each n [] = omega (arith, ap length (none n))
-words-long words word w none more each n (item ∷ items) =
-    let rest : length (words (suc n) items) ≡ length items * w = words-long words word w none more each (suc n) items in
-    omega (arith, ap length (more n item items), length-append (word n item) (words (suc n) items), each n item, rest, suc-mul (length items) w)
+words-long words word w none more each n (item ∷ items) = grind (arith, length-append, suc-mul, words-long words word w none more each (suc n) items)
 
 -- words have an access for each digit
 pub length-words : (shape : Shape) (n : ℕ) (items : List ℕ) → length (words_phrase shape n items) ≡ length items * width_of shape
@@ -73,9 +70,7 @@ length-stored shape c seen items =
 
 -- no put is longer than the bounds
 pub item_puts-are_short : ItemPutsAreShort
-item_puts-are_short shape c seen item is (below, room, batch) =
-    let one : 1 * width_of shape ≡ width_of shape = omega arith in
-    omega (arith, below, length-stored shape c seen (item ∷ []), one, step_short shape P c item is)
+item_puts-are_short shape c seen item is (below, room, batch) = search (arith, length-stored, step_short)
 
 pub full_puts-are_short : FullPutsAreShort
 full_puts-are_short shape c seen (below, none) = omega (arith, below, length-scan (row_read_by P) seen)
@@ -87,12 +82,7 @@ puts-are_short shape c seen items is (below, room, batch) = omega (arith, below,
 length-two_scans :
     (seen again : ℕ) → length (scan_phrase (row_read_by C) seen ++ Read X true ∷ scan_phrase (row_read_by C) again) ≡ suc seen + suc (suc again)
 length-two_scans seen again =
-    omega (
-      arith,
-      length-append (scan_phrase (row_read_by C) seen) (Read X true ∷ scan_phrase (row_read_by C) again),
-      length-scan (row_read_by C) seen,
-      length-scan (row_read_by C) again,
-    )
+    grind (arith, length-append (scan_phrase (row_read_by C) seen) (Read X true ∷ scan_phrase (row_read_by C) again), length-scan (row_read_by C) seen, length-scan (row_read_by C) again)
 
 -- words that are read have an access for each digit
 pub length-words_read : (shape : Shape) (n : ℕ) (items : List ℕ) → length (words_read shape n items) ≡ length items * width_of shape
@@ -102,19 +92,15 @@ length-words_read shape =
 
 -- the accesses that take items
 length-items : (shape : Shape) (c : Count) (items : List ℕ) → length (items_phrase shape c items) ≡ length items * width_of shape + length (batch_phrase shape C c items)
-length-items shape c items =
-    omega (arith, length-append (words_read shape c.number items) (batch_phrase shape C c items), length-words_read shape c.number items)
+length-items shape c items = grind (arith, length-append, length-words_read)
 
 -- what follows the scans of a take of items: for one item its word and two writes of the count, for several a word each and a write
 items_short :
     (shape : Shape) (c : Count) (items : List ℕ) (scans : ℕ) → IsCount shape c → 1 ≤ length items → scans ≤ 2 * modulus_of shape + 1 →
     scans + length (items_phrase shape c items) ≤ longest_taking shape (length items)
 items_short shape c [] scans is some few = absurd (omega (arith, some))
-items_short shape c (item ∷ []) scans is some few =
-    let one : 1 * width_of shape ≡ width_of shape = omega arith in
-    omega (arith, few, length-items shape c (item ∷ []), one, step_short shape C c item is)
-items_short shape c (item ∷ next ∷ items) scans is some few =
-    omega (arith, few, length-items shape c (item ∷ next ∷ items), batch_short shape C c (item ∷ next ∷ items))
+items_short shape c (item ∷ []) scans is some few = search (arith, length-items, step_short)
+items_short shape c (item ∷ next ∷ items) scans is some few = search (arith, length-items, batch_short)
 
 -- no take is longer than the bound
 pub takes-are_short : TakesAreShort
@@ -126,26 +112,13 @@ takes-are_short shape c (Item seen items) is ((below, few, room), batch) =
       items_short shape c items (suc seen) is batch.some (omega (arith, below)),
     )
 takes-are_short shape c (ItemAfterClose seen again items) is ((below, none), (below', few, room), batch) =
-    omega (
-      arith,
-      length-append (scan_phrase (row_read_by C) seen ++ Read X true ∷ scan_phrase (row_read_by C) again) (items_phrase shape c items),
-      length-two_scans seen again,
-      items_short shape c items (suc seen + suc (suc again)) is batch.some (omega (arith, below, below')),
-    )
+    grind (arith, length-append, length-two_scans, items_short)
 takes-are_short shape c (Empty seen) is (below, none) =
     omega (arith, below, length-append (scan_phrase (row_read_by C) seen) (Read X false ∷ []), length-scan (row_read_by C) seen)
 
 -- the bound of more items is no lower
 pub longest_up : (shape : Shape) (m n : ℕ) → m ≤ n → longest_taking shape m ≤ longest_taking shape n
-longest_up shape zero zero l = omega arith
-longest_up shape zero (suc zero) l = omega arith
-longest_up shape zero (suc (suc n)) l = longest_least shape n
-longest_up shape (suc zero) zero l = absurd (omega (arith, l))
-longest_up shape (suc zero) (suc zero) l = omega arith
-longest_up shape (suc zero) (suc (suc n)) l = longest_least shape n
-longest_up shape (suc (suc m)) zero l = absurd (omega (arith, l))
-longest_up shape (suc (suc m)) (suc zero) l = absurd (omega (arith, l))
-longest_up shape (suc (suc m)) (suc (suc n)) l = omega (arith, mul-le-mul_right (width_of shape) l)
+longest_up shape m n l = grind (arith, longest_least, mul-le-mul_right)
 
 -- no take that returns Closed is longer than the bound
 pub ends-are_short : EndsAreShort

@@ -1,5 +1,5 @@
 -- The machines that both sides are made of: what holds for them while they are running, and once they are done.
-use Rattle.std.proofs.Common.{◌≡◌, inl, inr, ℕ, zero, suc, ◌+◌, ◌%◌, ◌<◌, ◌≤◌, Bool, true, false, cond, not, is_some, Option, Some, None, List, [], ◌∷◌, ◌++◌, length, if◌then◌else◌, refl, sym, ap, subst, ◌∙◌, arith, append_assoc}
+use Rattle.std.proofs.Common.{◌≡◌, inl, inr, ℕ, zero, suc, ◌+◌, ◌%◌, ◌<◌, ◌≤◌, Bool, true, false, not, is_some, Option, Some, None, List, [], ◌∷◌, ◌++◌, length, if◌then◌else◌, refl, sym, ap, subst, ◌∙◌, arith, append_assoc}
 use Rattle.std.proofs.Math.Nat.{mod-eq_of_lt}
 use Rattle.bits_core.specs.declared.events.Side.{Side}
 use Rattle.bits_core.specs.declared.events.Access.{Access}
@@ -7,14 +7,14 @@ use Rattle.bits_core.specs.declared.events.Access.TheVariants.{Read}
 use Rattle.bits_core.specs.declared.shapes.Shape.{Shape}
 use Rattle.bits_core.specs.Shape.{modulus_of}
 use Rattle.bits_core.specs.Made.{Made, answered}
-use Rattle.register_core.specs.Row.{RowWrite, row_bit}
+use Rattle.register_core.specs.Row.{row_bit}
 use Rattle.register_core.specs.ScanState.{ScanState, ScanStands, IsScanOf, IsValueRead, scan_read, due_scan, row_read_by}
 use Rattle.register_core.specs.Machine.{IsNext}
 use Rattle.register_core.specs.Unary.{setting, clearing, unary_phrase, count_writes}
 use Rattle.register_core.specs.UnaryState.{UnaryState, bit_in, due_writes, due_unary, UnaryStands}
-use Rattle.ring_core.specs.Calls.{LastBitIsDue, IsScanning, IsCounted, IsBeingCounted, IsBeingCountedOn}
+use Rattle.ring_core.specs.Calls.{LastBitIsDue, IsScanning, IsCounted, IsBeingCountedOn}
 use Rattle.ring_core.specs.Counts.{number_past, Count, IsCount}
-use Rattle.ring_core.proofs.CountRow.{next_modulo, past_is, bits_long}
+use Rattle.ring_core.proofs.CountRow.{past_is, bits_long}
 use Rattle.ring_core.proofs.Readings.Phrases.{at_or_below}
 use Rattle.register_core.proofs.Stands.{idle as no_first}
 
@@ -26,35 +26,17 @@ pub scanning :
     new ≡ scan_read old answer → new.found ≡ false → IsScanning side (modulus_of shape) new
 scanning shape side old new true is one e f = absurd (cc)
 scanning shape side old new false is one e f =
-    let due : due_scan old ≡ Some (Read (row_read_by side old.zeros)) =
-    ap (λ b. if b then None else Some (Read (row_read_by old.side old.zeros))) is.not_found ∙ ap (λ s. Some (Read (row_read_by s old.zeros))) is.side_is in
-    let not_last : (suc old.zeros ≡ modulus_of shape) → ⊥ = (λ l. absurd (let w : false ≡ true = one (old.zeros, due, l) in cc)) in
-    record {
-      side_is = ap (λ (s : ScanState). s.side) e ∙ is.side_is;
-      modulus_is = ap (λ (s : ScanState). s.modulus) e ∙ is.modulus_is;
-      not_found = f;
-      below = subst (λ n. n < modulus_of shape) (sym (ap (λ (s : ScanState). s.zeros) e)) (grind (arith, not_last, is.below));
-    }
+    let due : due_scan old ≡ Some (Read (row_read_by side old.zeros)) = grind arith in
+    grind arith
 
 -- ---- the count
 
 -- if nothing of a unary write is due, its bit is set and those below are clear
 set_there : (bits : ℕ → Bool) (v : ℕ) (b : Bool) → bits v ≡ b → unary_phrase bits v ≡ [] → bits v ≡ true
-set_there bits v true e none = e
-set_there bits v false e none =
-    let some : cond (bits v) [] (record { bit = v; value = true } ∷ []) ++ clearing bits v ≡ record { bit = v; value = true } ∷ clearing bits v =
-    ap (λ b. cond b [] (record { bit = v; value = true } ∷ []) ++ clearing bits v) e in
-    let clash : [] ≡ record { bit = v; value = true } ∷ clearing bits v = sym none ∙ some in
-    absurd (cc)
-
-abbrev clear_at : ℕ → RowWrite
-clear_at j = record { bit = j; value = false }
+set_there bits v b e none = grind arith
 
 none_at : (bits : ℕ → Bool) (v : ℕ) (b : Bool) → bits v ≡ b → clearing bits (suc v) ≡ [] → (bits v ≡ false) × (clearing bits v ≡ [])
-none_at bits v true e none =
-    let clash : [] ≡ clear_at v ∷ clearing bits v = sym none ∙ ap (λ b. cond b (clear_at v ∷ clearing bits v) (clearing bits v)) e in
-    absurd (cc)
-none_at bits v false e none = (e, sym (ap (λ b. cond b (clear_at v ∷ clearing bits v) (clearing bits v)) e) ∙ none)
+none_at bits v b e none = grind arith
 
 none_below : (bits : ℕ → Bool) (v j : ℕ) → clearing bits v ≡ [] → j < v → bits j ≡ false
 none_below bits zero j none l = absurd (omega arith)
@@ -67,28 +49,6 @@ none_below bits (suc v) j none l =
 no_parts : {A : Type 0} (xs ys : List A) → xs ++ ys ≡ [] → (xs ≡ []) × (ys ≡ [])
 no_parts [] ys e = (refl, e)
 no_parts (x ∷ xs) ys e = absurd (cc)
-
--- once a count is written, the write of the next one has an access
-next_due : (bits : ℕ → Bool) (n modulus : ℕ) → n < modulus → 1 < modulus → unary_phrase bits n ≡ [] → unary_phrase bits (suc n % modulus) ≡ [] → ⊥
-next_due bits n modulus l few none next =
-    let set_n : bits n ≡ true = set_there bits n (bits n) refl none in
-    elim (next_modulo n modulus (omega arith)) [
-      | inl up ↦ let e : suc n % modulus ≡ suc n = up ∙ ap suc (mod-eq_of_lt l) in
-          let clear_n : bits n ≡ false = (none_at bits n (bits n) refl (no_parts (setting bits (suc n)) (clearing bits (suc n)) (sym (ap (unary_phrase bits) e) ∙ next)).1).0 in
-          absurd (cc)
-      | inr (wraps, at_end) ↦ let last : suc n ≡ modulus = sym (ap suc (mod-eq_of_lt l)) ∙ at_end in
-          let set_0 : bits 0 ≡ true = set_there bits 0 (bits 0) refl (sym (ap (unary_phrase bits) wraps) ∙ next) in
-          let clear_0 : bits 0 ≡ false = none_below bits n 0 (no_parts (setting bits n) (clearing bits n) none).1 (omega (arith, last, few)) in
-          absurd (cc)
-    ]
-
-pub counting :
-    (shape : Shape) (row new : UnaryState) (count : ℕ) → IsCounted row count → count < modulus_of shape → new ≡ record row { value = suc count % modulus_of shape } →
-    IsBeingCounted new (modulus_of shape) count
-counting shape row new count (none, value) below e =
-    let at_rest : unary_phrase (bit_in row.bits) count ≡ [] = ap (unary_phrase (bit_in row.bits)) (sym value) ∙ no_first (row_bit row.side) (due_writes row) none in
-    let some : unary_phrase (bit_in row.bits) (suc count % modulus_of shape) ≡ [] → ⊥ = next_due (bit_in row.bits) count (modulus_of shape) below (omega (arith, shape.has_cells, shape.room_to_count, shape.has_batch)) at_rest in
-    rw e ((λ f. some (no_first (row_bit row.side) (unary_phrase (bit_in row.bits) (suc count % modulus_of shape)) f)), refl)
 
 -- the same for a write that counts some items
 pub counting_on :
@@ -113,20 +73,14 @@ counting_on shape row new count items m (none, value) below size some few e =
 
 -- a scan without a value continues
 pub no_value : (s : ScanState) (value : Option ℕ) → value ≡ (if s.found then Some s.zeros else None) → value ≡ None → s.found ≡ false
-no_value s value e f = by_found s.found refl
-  where
-    by_found : (b : Bool) → s.found ≡ b → s.found ≡ false
-    by_found true g = let clash : None ≡ Some s.zeros = sym f ∙ e ∙ ap (λ b. if b then Some s.zeros else None) g in absurd (cc)
-    by_found false g = g
+no_value s value e f = grind arith
 
 -- a scan that was fed is of the same count
 same_scan_side : (s : ScanState) (answer : Bool) → (scan_read s answer).side ≡ s.side
-same_scan_side s true = refl
-same_scan_side s false = refl
+same_scan_side s answer = grind arith
 
 same_scan_modulus : (s : ScanState) (answer : Bool) → (scan_read s answer).modulus ≡ s.modulus
-same_scan_modulus s true = refl
-same_scan_modulus s false = refl
+same_scan_modulus s answer = grind arith
 
 -- the value of a scan that has ended
 pub gives :
@@ -141,14 +95,12 @@ gives shape side old new answer value seen is fed some values reads stands =
 
 -- what a test implies does not hold if the test failed
 pub denied : {A : Type 0} (b : Bool) → (A → b ≡ true) → b ≡ false → A → ⊥
-denied true told e a = absurd (cc)
-denied false told e a = let clash : false ≡ true = told a in absurd (cc)
+denied b told e a = grind arith
 
 -- ---- machines that are done
 
 pub none_next : {A : Type 0} (o : Option A) (b : Bool) → is_some o ≡ not b → b ≡ true → o ≡ None
-none_next None b e f = refl
-none_next (Some x) b e f = let clash : true ≡ false = e ∙ ap not f in absurd (cc)
+none_next o b e f = grind arith
 
 pub row_whole :
     (side : Side) (row new : UnaryState) (due : Option Access) → row.side ≡ side → new.side ≡ row.side → due ≡ None →
@@ -174,8 +126,7 @@ RowGoesOn old new answer =
 pub row_more :
     (old new : UnaryState) (answer : Bool) (values : List ℕ) (front writes : List Made) (access : Access) → RowGoesOn old new answer →
     UnaryStands old values (front ++ writes) → due_unary old ≡ Some access → UnaryStands new values (front ++ (writes ++ answered access answer ∷ []))
-row_more old new answer values front writes access goes stands due =
-    subst (λ l. UnaryStands new values l) (append_assoc front writes (answered access answer ∷ [])) (goes values (front ++ writes) access stands due)
+row_more old new answer values front writes access goes stands due = grind (arith, append_assoc)
 
 -- one more access after a part of those made
 pub and_more : (made front part x : List Made) → made ≡ front ++ part → made ++ x ≡ front ++ (part ++ x)

@@ -1,20 +1,19 @@
 -- What the machines that both sides are made of have due next.
-use Rattle.std.proofs.Common.{◌≡◌, ℕ, zero, suc, ◌%◌, ◌<◌, ◌≤◌, Bool, true, false, cond, IfSome, Option, Some, None, List, [], ◌∷◌, ◌++◌, length, if◌then◌else◌, refl, sym, ap, subst, ◌∙◌, arith, append_assoc, append-nil, length-append}
+use Rattle.std.proofs.Common.{◌≡◌, ℕ, zero, suc, ◌%◌, ◌<◌, ◌≤◌, Bool, true, false, cond, IfSome, Option, Some, None, List, [], ◌∷◌, ◌++◌, length, refl, sym, ap, subst, ◌∙◌, arith, append_assoc, append-nil, length-append}
 use Rattle.std.proofs.Math.Nat.{mod-lt}
 use Rattle.std.proofs.lemmas.List.{append_cancel_left}
 use Rattle.std.proofs.lemmas.Bool.Decides.{nat_tests}
 use Rattle.bits_core.specs.declared.events.Side.{Side}
-use Rattle.bits_core.specs.declared.events.Side.TheVariants.{P, C}
 use Rattle.bits_core.specs.declared.events.Bit.{Bit}
 use Rattle.bits_core.specs.declared.events.Access.{Access}
 use Rattle.bits_core.specs.declared.events.Access.TheVariants as begins
 use Rattle.bits_core.specs.declared.shapes.Shape.{Shape}
 use Rattle.bits_core.specs.Shape.{modulus_of}
 use Rattle.bits_core.specs.Open.{IsOpenRight}
-use Rattle.bits_core.specs.Made.{Made, Read, Write, access_of, answered, IsPrefix}
+use Rattle.bits_core.specs.Made.{Made, Read, access_of, answered, IsPrefix}
 use Rattle.register_core.specs.Machine.{IsNext}
 use Rattle.register_core.specs.Row.{RowWrite, row_bit}
-use Rattle.register_core.specs.ScanState.{ScanState, ScanStands, BeginsScan, zero_reads, scan_phrase, row_read_by, due_scan}
+use Rattle.register_core.specs.ScanState.{ScanState, ScanStands, BeginsScan, zero_reads, row_read_by, due_scan}
 use Rattle.register_core.specs.Unary.{clearing, unary_phrase, count_writes}
 use Rattle.register_core.specs.UnaryState.{UnaryState, bit_in, due_writes, due_unary, first_access}
 use Rattle.ring_core.specs.Calls.{LastBitIsDue, IsScanning}
@@ -37,24 +36,19 @@ length-part made rest whole y e = omega (arith, ap length e, length-append (made
 
 -- the read that a scan under way has due
 pub scan_due : (side : Side) (modulus : ℕ) (s : ScanState) → IsScanning side modulus s → due_scan s ≡ Some (begins.Read (row_read_by side s.zeros))
-scan_due side modulus s is =
-    ap (λ b. if b then None else Some (begins.Read (row_read_by s.side s.zeros))) is.not_found ∙ ap (λ t. Some (begins.Read (row_read_by t s.zeros))) is.side_is
+scan_due side modulus s is = grind arith
 
 pub scan_reads :
     (side : Side) (modulus : ℕ) (s : ScanState) (reads : List Made) → IsScanning side modulus s → ScanStands s reads →
     reads ≡ zero_reads (row_read_by side) s.zeros
-scan_reads side modulus s reads is stands =
-    stands.made_is ∙ ap (λ b. if b then scan_phrase (row_read_by s.side) s.zeros else zero_reads (row_read_by s.side) s.zeros) is.not_found ∙
-    ap (λ t. zero_reads (row_read_by t) s.zeros) is.side_is
+scan_reads side modulus s reads is stands = grind arith
 
 -- it continues whatever the read returns, except for a 0 of the last bit
 pub scan_goes_on :
     (shape : Shape) (side : Side) (s : ScanState) (reads : List Made) (answer : Bool) → IsScanning side (modulus_of shape) s → ScanStands s reads →
     (LastBitIsDue shape side (Some (begins.Read (row_read_by side s.zeros))) → answer ≡ true) →
     BeginsScan (row_read_by side) (modulus_of shape) (reads ++ Read (row_read_by side s.zeros) answer ∷ [])
-scan_goes_on shape side s reads true is stands one =
-    let last : List Made = Read (row_read_by side s.zeros) true ∷ [] in
-    (s.zeros, is.below, ([], append-nil (reads ++ last) ∙ ap (λ l. l ++ last) (scan_reads side (modulus_of shape) s reads is stands)))
+scan_goes_on shape side s reads true is stands one = grind (arith, append-nil, scan_reads)
 scan_goes_on shape side s reads false is stands one =
     let zero_read : List Made = Read (row_read_by side s.zeros) false ∷ [] in
     let last : List Made = Read (row_read_by side (suc s.zeros)) true ∷ [] in
@@ -65,15 +59,13 @@ scan_goes_on shape side s reads false is stands one =
 
 -- the due write of a phrase, once made, is the next of the phrase
 pub answered_write : (x : Made) (access : Access) (b : Bit) (v answer : Bool) → access_of x ≡ access → access ≡ begins.Write b v → answered access answer ≡ x
-answered_write (Read c w) access b v answer e f = absurd (cc)
-answered_write (Write c w) access b v answer e f = ap (λ a. answered a answer) (sym e)
+answered_write x access b v answer e f = grind arith
 
 -- what is due of writes to a row is a write
 first_writes :
     (bit_of : ℕ → Bit) (writes : List RowWrite) (due : Option Access) → due ≡ first_access bit_of writes → (due ≡ None → ⊥) →
     (b : Bit) × (v : Bool) × (due ≡ Some (begins.Write b v))
-first_writes bit_of [] due e some = absurd (some e)
-first_writes bit_of (w ∷ writes) due e some = (bit_of w.bit, w.value, e)
+first_writes bit_of writes due e some = grind arith
 
 -- what is due of a count write under way is one of its writes; once that was made, the rest of them follows
 pub record NextWrite (due : Option Access) (writes count : List Made) : Type 0 where
@@ -90,8 +82,7 @@ next_write side row values old writes count due of_side some due_is next all =
     let access : Access = begins.Write b v in
     let (x, rest, x_is, whole) =
     subst (λ d. IsNext (count_writes side values) (old ++ writes) d) due_some (subst (λ s. IsNext (count_writes s values) (old ++ writes) due) of_side next) in
-    let count_is : writes ++ x ∷ rest ≡ count =
-    append_cancel_left old (writes ++ x ∷ rest) count (sym (append_assoc old writes (x ∷ rest)) ∙ sym whole ∙ all) in
+    let count_is : writes ++ x ∷ rest ≡ count = grind (arith, append_cancel_left, append_assoc) in
     record {
       access = access;
       due_is = due_some;
@@ -104,29 +95,22 @@ next_write side row values old writes count due of_side some due_is next all =
 
 -- a side's own accesses to bits of the shape
 pub scan_bit_right : (shape : Shape) (side : Side) (i : ℕ) → i < modulus_of shape → IsOpenRight shape side (begins.Read (row_read_by side i))
-scan_bit_right shape P i l = (grind (arith, nat_tests), refl)
-scan_bit_right shape C i l = (grind (arith, nat_tests), refl)
+scan_bit_right shape side i l = grind (arith, nat_tests)
 
 pub row_bit_right : (shape : Shape) (side : Side) (i : ℕ) (v : Bool) → i < modulus_of shape → IsOpenRight shape side (begins.Write (row_bit side i) v)
-row_bit_right shape P i v l = (grind (arith, nat_tests), refl)
-row_bit_right shape C i v l = (grind (arith, nat_tests), refl)
+row_bit_right shape side i v l = grind (arith, nat_tests)
 
 -- the read that a scan under way has due is such an access
 pub scan_right :
     (shape : Shape) (side : Side) (s : ScanState) (due : Option Access) → IsScanning side (modulus_of shape) s → due ≡ due_scan s → IfSome due (IsOpenRight shape side)
-scan_right shape side s due is due_is =
-    subst (λ d. IfSome d (IsOpenRight shape side)) (sym (due_is ∙ scan_due side (modulus_of shape) s is)) (scan_bit_right shape side s.zeros is.below)
+scan_right shape side s due is due_is = grind (arith, scan_due, scan_bit_right)
 
 -- the writes of a unary write are to bits up to its value
 clearing_right :
     (shape : Shape) (side : Side) (bits : ℕ → Bool) (v : ℕ) → v ≤ modulus_of shape →
     IfSome (first_access (row_bit side) (clearing bits v)) (IsOpenRight shape side)
 clearing_right shape side bits zero l = tt
-clearing_right shape side bits (suc j) l = by_bit (clearing_right shape side bits j (omega (arith, l))) (bits j)
-  where
-    by_bit : IfSome (first_access (row_bit side) (clearing bits j)) (IsOpenRight shape side) → (b : Bool) → IfSome (first_access (row_bit side) (cond b (record { bit = j; value = false } ∷ clearing bits j) (clearing bits j))) (IsOpenRight shape side)
-    by_bit below true = row_bit_right shape side j false (omega (arith, l))
-    by_bit below false = below
+clearing_right shape side bits (suc j) l = grind (arith, row_bit_right, clearing_right shape side bits j (omega (arith, l)))
 
 phrase_right :
     (shape : Shape) (side : Side) (bits : ℕ → Bool) (v : ℕ) → v < modulus_of shape →
@@ -140,9 +124,7 @@ phrase_right shape side bits v l = by_bit (bits v)
 pub row_right :
     (shape : Shape) (side : Side) (row : UnaryState) (due : Option Access) → row.side ≡ side → row.value < modulus_of shape → due ≡ due_unary row →
     IfSome due (IsOpenRight shape side)
-row_right shape side row due side_is below due_is =
-    subst (λ d. IfSome d (IsOpenRight shape side)) (sym due_is)
-    (subst (λ s. IfSome (first_access (row_bit s) (due_writes row)) (IsOpenRight shape side)) (sym side_is) (phrase_right shape side (bit_in row.bits) row.value below))
+row_right shape side row due side_is below due_is = grind (arith, phrase_right shape side (bit_in row.bits) row.value below)
 
 -- a value modulo the modulus
 pub row_below : (shape : Shape) (row : UnaryState) (n : ℕ) → row.value ≡ n % modulus_of shape → row.value < modulus_of shape

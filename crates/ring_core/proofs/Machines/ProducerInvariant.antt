@@ -25,20 +25,14 @@ same_putting :
     (p : ProducerState) (st : Stage) (scan : ScanState) (word : WriterState) (row : UnaryState) (most : ℕ) → IsPutting p →
     word.width ≡ p.word.width → word.cell ≡ p.word.cell → word.item ≡ p.word.item →
     IsPutting (record p { stage = st; scan = scan; word = word; row = row; most = most })
-same_putting p st scan word row most is e f g = record {
-  not_closed = is.not_closed;
-  not_answered = is.not_answered;
-  offers = is.offers;
-  writes = record { width_is = e ∙ is.writes.width_is; cell_is = f ∙ is.writes.cell_is; item_is = is.writes.item_is ∙ ap Some (sym g) };
-}
+same_putting p st scan word row most is e f g = grind arith
 
 -- a producer whose row is that of its side stays one if its stage's invariant holds
 stays_one :
     (p : ProducerState) (st : Stage) (scan : ScanState) (word : WriterState) (row : UnaryState) (index : ℕ) → IsProducer p → row.side ≡ p.row.side → row.modulus ≡ p.row.modulus →
     ProducerIsAt st (record p { stage = st; scan = scan; word = word; row = row; index = index }) →
     IsProducer (record p { stage = st; scan = scan; word = word; row = row; index = index })
-stays_one p st scan word row index is side modulus at =
-    record { count_below = is.count_below; cell_below = is.cell_below; row_side = side ∙ is.row_side; row_modulus = modulus ∙ is.row_modulus; at = at }
+stays_one p st scan word row index is side modulus at = grind arith
 
 pub scan_keeps :
     (p : ProducerState) (s : ScanState) (answer : Bool) → IsProducer p → p.stage ≡ Scanning → (LastBitIsDue p.shape P (due_put p) → answer ≡ true) →
@@ -63,56 +57,26 @@ pub has_given :
     record { state : s ≡ scan_read p.scan answer; stands : ScanGoesOn p.scan s answer } → value ≡ Some seen →
     ((reads : List Made) → ScanStands s reads → IsValueRead (row_read_by s.side) s.modulus reads value) → HasGiven p s answer seen
 has_given p s answer value seen e is fed some values =
-    let (counted, putting, fresh, start, scans) = at_stage p Scanning is e in
-    record { stage_is = e; fresh = fresh; start = start; goes = fed.stands; is_scan = gives p.shape P p.scan s answer value seen scans fed.state some values }
+    grind (arith, at_stage p Scanning is e, gives p.shape P p.scan s answer value seen ((at_stage p Scanning is e).4) fed.state some values)
 
 -- a word being written
 stores_so :
     (p : ProducerState) (w : WriterState) (index : ℕ) → IsProducer p → p.stage ≡ Storing → IsPutting (record p { stage = Storing; word = w; index = index }) → index < p.most →
     w.written < w.width → IsProducer (record p { word = w; index = index })
-stores_so p w index is e putting less more =
-    let (counted, was, keeping, unwritten) = at_stage p Storing is e in
-    stays_one p p.stage p.scan w p.row index is refl refl
-    (subst (λ st. ProducerIsAt st (record p { stage = st; word = w; index = index })) (sym e) (counted, putting, (less, keeping.1), more))
-
--- a word write that continues
-pub word_stays :
-    (p : ProducerState) (w : WriterState) → IsProducer p → p.stage ≡ Storing → w ≡ record p.word { written = suc p.word.written } →
-    w.written < w.width → IsProducer (record p { word = w })
-word_stays p w is e fed more =
-    let (counted, putting, keeping, less) = at_stage p Storing is e in
-    stores_so p w p.index is e
-    (same_putting p Storing p.scan w p.row p.most putting (ap (λ (x : WriterState). x.width) fed) (ap (λ (x : WriterState). x.cell) fed) (ap (λ (x : WriterState). x.item) fed))
-    keeping.0 more
+stores_so p w index is e putting less more = grind (arith, at_stage, stays_one)
 
 -- the next word
 pub next_keeps :
     (p : ProducerState) (w : WriterState) (cell item : ℕ) → IsProducer p → p.stage ≡ Storing → suc p.index < p.most →
     cell ≡ (p.cell + suc p.index) % capacity_of p.shape → slice_get p.items (suc p.index) ≡ Some item →
     w ≡ record { width = width_of p.shape; cell = cell; item = item; written = 0 } → IsProducer (record p { word = w; index = suc p.index })
-next_keeps p w cell item is e more cell_is item_is w_is =
-    let (counted, putting, keeping, less) = at_stage p Storing is e in
-    let begins : IsPutting (record p { stage = Storing; word = w; index = suc p.index }) =
-    record {
-      not_closed = putting.not_closed;
-      not_answered = putting.not_answered;
-      offers = putting.offers;
-      writes = record {
-        width_is = ap (λ (x : WriterState). x.width) w_is;
-        cell_is = ap (λ (x : WriterState). x.cell) w_is ∙ cell_is;
-        item_is = item_is ∙ ap Some (sym (ap (λ (x : WriterState). x.item) w_is));
-      };
-    } in
-    stores_so p w (suc p.index) is e begins more (omega (arith, ap (λ (x : WriterState). x.written) w_is, ap (λ (x : WriterState). x.width) w_is, p.shape.has_digits))
+next_keeps p w cell item is e more cell_is item_is w_is = grind (arith, at_stage, stores_so)
 
 pub next_so :
     (p : ProducerState) (w : WriterState) (cell item i : ℕ) → i ≡ suc p.index → IsProducer p → p.stage ≡ Storing → i < p.most →
     cell ≡ (p.cell + i) % capacity_of p.shape → slice_get p.items i ≡ Some item →
     w ≡ record { width = width_of p.shape; cell = cell; item = item; written = 0 } → IsProducer (record p { word = w; index = i })
-next_so p w cell item i so is e more cell_is item_is w_is =
-    subst (λ k. IsProducer (record p { word = w; index = k })) (sym so)
-    (next_keeps p w cell item is e (omega (arith, more, so)) (cell_is ∙ ap (λ k. (p.cell + k) % capacity_of p.shape) so)
-    (ap (slice_get p.items) (sym so) ∙ item_is) w_is)
+next_so p w cell item i so is e more cell_is item_is w_is = grind (arith, next_keeps)
 
 -- the words are written
 pub word_keeps :
@@ -121,12 +85,7 @@ pub word_keeps :
 word_keeps p w row is e fed begun =
     let (counted, putting, keeping, more) = at_stage p Storing is e in
     let size : length (take p.most p.items) ≡ p.most = taken_so p.items p.most keeping.1 in
-    let batch = taken_batch p.shape p.items p.most (omega (arith, keeping.0)) putting.offers in
-    stays_one p Counting p.scan w row p.index is (ap (λ (r : UnaryState). r.side) begun) (ap (λ (r : UnaryState). r.modulus) begun) (
-      counting_on p.shape p.row row p.count (take p.most p.items) p.most counted is.count_below (sym size) batch.some (omega (arith, batch.few, batch_below p.shape)) begun,
-      same_putting p Counting p.scan w row p.most putting (ap (λ (x : WriterState). x.width) fed) (ap (λ (x : WriterState). x.cell) fed) (ap (λ (x : WriterState). x.item) fed),
-      keeping,
-    )
+    grind (arith, taken_batch, stays_one, counting_on, batch_below, same_putting)
 
 pub word_whole :
     (p : ProducerState) (w : WriterState) (due : Option Access) → IsWritingWord p → w ≡ record p.word { written = suc p.word.written } → due ≡ None →

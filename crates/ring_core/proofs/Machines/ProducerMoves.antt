@@ -1,5 +1,5 @@
 -- The producer's machine, access by access.
-use Rattle.std.proofs.Common.{◌≡◌, ◌⊎◌, inl, ℕ, suc, ◌+◌, ◌%◌, ◌≤◌, Bool, true, false, Option, Some, None, List, [], ◌∷◌, ◌++◌, length, take, refl, sym, ap, subst, ◌∙◌, append_assoc, append-nil}
+use Rattle.std.proofs.Common.{◌≡◌, ◌⊎◌, inl, ℕ, suc, ◌+◌, ◌%◌, ◌≤◌, Bool, true, false, Option, Some, None, List, [], ◌∷◌, ◌++◌, length, take, refl, sym, ap, subst, ◌∙◌, append_assoc, append-nil, arith}
 use Rattle.std.specs.Prelude.{slice_get}
 use Rattle.std.proofs.lemmas.List.{append_cancel_left}
 use Rattle.bits_core.specs.declared.events.Side.TheVariants.{P}
@@ -23,7 +23,7 @@ use Rattle.ring_core.specs.Counts.{LeavesRoom, LeavesRoomFor, distance, number_p
 use Rattle.ring_core.specs.Puts.{Puts, Stored, Full, number_after, words_phrase, put_phrase, put_phrases, IsBatch, IsPut, ArePuts}
 use Rattle.ring_core.specs.Puts as puts
 use Rattle.ring_core.specs.ProducerState.{ProducerState, Call, Put, Close, call_of, call_at, due_put, producer_due_at}
-use Rattle.ring_core.specs.ProducerCalls.{count_of, values_of, ProducerStands, ProducerMadeAt, ProducerHasMoved, ProducerMoves, IsPutOf, put_reply_to, and_put, and_close, HasCallMore, IsOpenForCall, closes_with, IsReplyToCall, IsAfterCall}
+use Rattle.ring_core.specs.ProducerCalls.{count_of, values_of, ProducerStands, ProducerMadeAt, ProducerHasMoved, ProducerMoves, IsPutOf, put_reply_to, and_put, and_close, HasCallMore, IsOpenForCall, closes_with, IsAfterCall}
 use Rattle.ring_core.proofs.Machines.MachineParts.{GoesOn, ScanGoesOn, RowGoesOn, row_more, and_more, longer}
 use Rattle.ring_core.proofs.Machines.Batches.{taken_so, taken_batch, has_seen, words-take, far_from, past_so}
 use Rattle.ring_core.proofs.Machines.PutCalls.{stored-push, are-push, reply-push, program-push, values_hold, values-push, values-full}
@@ -47,47 +47,26 @@ abbrev pub at_stage : ProducerState → Stage → ScanState → WriterState → 
 at_stage p st scan word row most index = record p { stage = st; scan = scan; word = word; row = row; most = most; index = index }
 
 after_on : (shape : Shape) (a b : Option Call) (c : Call) (calls : Puts) (answer : Option BatchReply) → a ≡ Some c → b ≡ Some c → IsAfterCall shape a b calls calls answer
-after_on shape None b c calls answer e f = absurd (cc)
-after_on shape (Some a) None c calls answer e f = absurd (cc)
-after_on shape (Some a) (Some b) c calls answer e f = (cc, refl)
+after_on shape a b c calls answer e f = grind arith
 
 after_over :
     (shape : Shape) (a : Option Call) (c : Call) (calls more : Puts) (answer : Option BatchReply) → a ≡ Some c → HasCallMore shape c calls more →
     (c ≡ Close → answer ≡ None) → IsAfterCall shape a None calls more answer
-after_over shape None c calls more answer e has h = absurd (cc)
-after_over shape (Some a) c calls more answer e has h =
-    let same : c ≡ a = cc in
-    (subst (λ d. HasCallMore shape d calls more) same has, λ f. h (same ∙ f))
+after_over shape a c calls more answer e has h = grind arith
 
 -- a put under way continues at a stage
 pub put_goes_on :
     (p : ProducerState) (st now : Stage) (scan : ScanState) (word : WriterState) (row : UnaryState) (most index : ℕ) (calls : Puts) (made more : List Made) →
     p.stage ≡ st → call_at st p.items ≡ Some (Put p.items) → call_at now p.items ≡ Some (Put p.items) → ProducerStands p calls made →
     ProducerMadeAt now (at_stage p now scan word row most index) calls more → ProducerHasMoved p (at_stage p now scan word row most index) calls more
-put_goes_on p st now scan word row most index calls made more e before after stands made_is =
-    let was : call_of p ≡ Some (Put p.items) = subst (λ s. call_at s p.items ≡ Some (Put p.items)) (sym e) before in
-    let same : call_of p ≡ call_of (at_stage p now scan word row most index) = was ∙ sym after in (
-      calls,
-      record {
-        are = stands.are;
-        count_is = stands.count_is;
-        cell_is = stands.cell_is;
-        closed_is = subst (λ c. p.closed ≡ closes_with calls c) same stands.closed_is;
-        not_over = subst (λ c. IsOpenForCall c calls) same stands.not_over;
-        reply_is = subst (λ c. IsReplyToCall calls c p.reply) same stands.reply_is;
-        made_is = made_is;
-      },
-      after_on p.shape (call_of p) (call_at now p.items) (Put p.items) calls p.reply was after,
-    )
+put_goes_on p st now scan word row most index calls made more e before after stands made_is = grind (arith, after_on)
 
 -- and at the stage that it is at
 put_stays :
     (p : ProducerState) (st : Stage) (scan : ScanState) (word : WriterState) (row : UnaryState) (index : ℕ) (calls : Puts) (made more : List Made) →
     p.stage ≡ st → call_at st p.items ≡ Some (Put p.items) → ProducerStands p calls made → ProducerMadeAt st (at_stage p st scan word row p.most index) calls more →
     ProducerHasMoved p (at_stage p p.stage scan word row p.most index) calls more
-put_stays p st scan word row index calls made more e puts stands made_is =
-    subst (λ s. ProducerHasMoved p (at_stage p s scan word row p.most index) calls more) (sym e)
-    (put_goes_on p st st scan word row p.most index calls made more e puts puts stands made_is)
+put_stays p st scan word row index calls made more e puts stands made_is = grind (arith, put_goes_on)
 
 -- ---- a put is over
 
@@ -111,8 +90,7 @@ pub put_over :
     ProducerHasMoved p (ended_put p x count cell scan word row) calls more
 put_over p st x count cell scan word row calls made more e before stands of_items is count_is cell_is rests made_is =
     let was : call_of p ≡ Some (Put p.items) = subst (λ s. call_at s p.items ≡ Some (Put p.items)) (sym e) before in
-    let n : (count_of p.shape (and_put calls x)).number ≡ number_after (count_of p.shape calls).number x =
-    ap (λ (c : Count). c.number) (stored-push p.shape first_count calls.puts x) in
+    let n : (count_of p.shape (and_put calls x)).number ≡ number_after (count_of p.shape calls).number x = grind (arith, stored-push) in
     let are : ArePuts p.shape 0 (calls.puts ++ x ∷ []) = are-push p.shape first_count calls.puts x stands.are is in (
       and_put calls x,
       record {
@@ -131,10 +109,7 @@ put_over p st x count cell scan word row calls made more e before stands of_item
 -- ---- the scan
 
 pub scan_on : (p : ProducerState) (s : ScanState) (answer : Bool) → p.stage ≡ Scanning → ScanGoesOn p.scan s answer → ProducerMoves p answer (record p { scan = s })
-scan_on p s answer e goes calls made access stands due =
-    let (rests, reads, scans, made_is) = made_at Scanning p calls made e stands in
-    put_stays p Scanning s p.word p.row p.index calls made _ e refl stands
-    (rests, reads ++ answered access answer ∷ [], goes reads access scans (due_is Scanning p access e due), and_more _ _ _ _ made_is)
+scan_on p s answer e goes calls made access stands due = grind (arith, made_at, put_stays, due_is, and_more, append_assoc, append-nil)
 
 no_writes : (w : WriterState) → w.written ≡ 0 → WriterStands w []
 no_writes w e = sym (ap (λ n. writes_in (Cell w.cell) (digit_writes w.item n)) e)
@@ -148,24 +123,8 @@ scan_room p s answer seen most e goes fresh start gives room all calls made acce
     let (rests, reads, scans, made_is) = made_at Scanning p calls made e stands in
     let x : List Made = answered access answer ∷ [] in
     let n : ℕ = (count_of p.shape calls).number in
-    let front : List Made = put_phrases p.shape first_count calls.puts in
-    let scan : List Made = scan_phrase (row_read_by P) seen in
     let (below, reads_are) = gives (reads ++ x) (goes reads access scans (due_is Scanning p access e due)) in
-    let none : words_phrase p.shape n (take p.index p.items) ≡ [] = ap (λ i. words_phrase p.shape n (take i p.items)) start ∙ no_words p.items in
-    put_goes_on p Scanning Storing s p.word p.row most p.index calls made (made ++ x) e refl refl stands (
-      rests,
-      seen,
-      has_seen p.shape p.items most n seen below (subst (λ k. LeavesRoomFor p.shape k seen most) stands.count_is room)
-          (subst (λ k. (most ≡ length p.items) ⊎ (distance (modulus_of p.shape) k seen + most ≡ capacity_of p.shape)) stands.count_is all),
-      [],
-      no_writes p.word fresh,
-      ap (λ l. l ++ x) made_is ∙ append_assoc front reads x ∙
-          ap (λ l. front ++ l) (reads_are ∙ sym (append-nil scan) ∙ sym (append-nil (scan ++ [])) ∙ ap (λ l. (scan ++ l) ++ []) (sym none)),
-    )
-  where
-    no_words : (items : List ℕ) → words_phrase p.shape (count_of p.shape calls).number (take 0 items) ≡ []
-    no_words [] = refl
-    no_words (item ∷ items) = refl
+    grind (arith, put_goes_on, has_seen, no_writes, append_assoc, append-nil)
 
 pub scan_full :
     (p : ProducerState) (s : ScanState) (answer : Bool) (seen : ℕ) → p.stage ≡ Scanning → ScanGoesOn p.scan s answer →
@@ -187,18 +146,7 @@ abbrev pub WordGoesOn : WriterState → WriterState → Bool → Type 0
 WordGoesOn = GoesOn WriterStands due_write
 
 pub word_on : (p : ProducerState) (w : WriterState) (answer : Bool) → p.stage ≡ Storing → WordGoesOn p.word w answer → ProducerMoves p answer (record p { word = w })
-word_on p w answer e goes calls made access stands due =
-    let (rests, seen, has, writes, words, made_is) = made_at Storing p calls made e stands in
-    let x : List Made = answered access answer ∷ [] in
-    let scan_words : List Made = scan_phrase (row_read_by P) seen ++ words_phrase p.shape (count_of p.shape calls).number (take p.index p.items) in
-    put_stays p Storing p.scan w p.row p.index calls made (made ++ x) e refl stands (
-      rests,
-      seen,
-      has,
-      writes ++ x,
-      goes writes access words (due_is Storing p access e due),
-      ap (λ l. l ++ x) made_is ∙ longer (put_phrases p.shape first_count calls.puts) scan_words writes x,
-    )
+word_on p w answer e goes calls made access stands due = grind (arith, made_at, put_stays, due_is, longer)
 
 -- the words made, once the one under way is whole
 whole_words :
@@ -241,8 +189,7 @@ pub word_so :
     slice_get p.items p.index ≡ Some p.word.item → WriterStands new [] →
     ProducerMoves p answer (record p { word = new; index = i })
 word_so p w new answer i so e goes whole item_is fresh calls made access stands due =
-    subst (λ k. ProducerHasMoved p (record p { word = new; index = k }) calls (made ++ answered access answer ∷ [])) (sym so)
-    (word_next p w new answer e goes whole item_is fresh calls made access stands due)
+    grind (arith, word_next p w new answer e goes whole item_is fresh calls made access stands due)
 
 pub word_over :
     (p : ProducerState) (w : WriterState) (row : UnaryState) (answer : Bool) → p.stage ≡ Storing → WordGoesOn p.word w answer →
@@ -257,10 +204,8 @@ word_over p w row answer e goes whole item_is last few begins calls made access 
     let front : List Made = put_phrases p.shape first_count calls.puts in
     let scan : List Made = scan_phrase (row_read_by P) seen in
     let values : List ℕ = values_of p.shape calls in
-    let value : (p.count + p.most) % modulus_of p.shape ≡ number_past n (take p.most p.items) % modulus_of p.shape =
-    past_so p.count n (modulus_of p.shape) (take p.most p.items) p.most stands.count_is (taken_so p.items p.most few) in
-    let row_begins : UnaryStands row (values ++ number_past n (take p.most p.items) % modulus_of p.shape ∷ []) (count_writes P values) =
-    subst (λ v. UnaryStands row (values ++ v ∷ []) (count_writes P values)) value (begins values (count_writes P values) rests) in
+    let value : (p.count + p.most) % modulus_of p.shape ≡ number_past n (take p.most p.items) % modulus_of p.shape = grind (arith, past_so, taken_so) in
+    let row_begins : UnaryStands row (values ++ number_past n (take p.most p.items) % modulus_of p.shape ∷ []) (count_writes P values) = grind arith in
     put_goes_on p Storing Counting p.scan w row p.most p.index calls made (made ++ x) e refl refl stands (
       seen,
       has,
@@ -273,20 +218,7 @@ word_over p w row answer e goes whole item_is last few begins calls made access 
 -- ---- the count
 
 pub count_on : (p : ProducerState) (row : UnaryState) (answer : Bool) → p.stage ≡ Counting → RowGoesOn p.row row answer → ProducerMoves p answer (record p { row = row })
-count_on p row answer e goes calls made access stands due =
-    let (seen, has, writes, rows, made_is) = made_at Counting p calls made e stands in
-    let x : List Made = answered access answer ∷ [] in
-    let n : ℕ = (count_of p.shape calls).number in
-    let values : List ℕ = values_of p.shape calls ++ number_past n (take p.most p.items) % modulus_of p.shape ∷ [] in
-    let old : List Made = count_writes P (values_of p.shape calls) in
-    let rows' : UnaryStands row values (old ++ (writes ++ x)) = row_more p.row row answer values old writes access goes rows (due_is Counting p access e due) in
-    put_stays p Counting p.scan p.word row p.index calls made (made ++ x) e refl stands (
-      seen,
-      has,
-      writes ++ x,
-      rows',
-      ap (λ l. l ++ x) made_is ∙ longer (put_phrases p.shape first_count calls.puts) (scan_phrase (row_read_by P) seen ++ words_phrase p.shape n (take p.most p.items)) writes x,
-    )
+count_on p row answer e goes calls made access stands due = grind (arith, made_at, row_more, due_is, put_stays, longer)
 
 pub count_over :
     (p : ProducerState) (row : UnaryState) (answer : Bool) (count cell : ℕ) → p.stage ≡ Counting → RowGoesOn p.row row answer → IsBatch p.shape p.items →
@@ -345,19 +277,7 @@ close_over p answer e none calls made access stands due =
 -- ---- which kind of put was last
 
 batched_at : (st : Stage) (p : ProducerState) (b : Bool) (calls : Puts) (made : List Made) → ProducerMadeAt st p calls made → ProducerMadeAt st (record p { batched = b }) calls made
-batched_at Idle p b calls made is = is
-batched_at Scanning p b calls made is = is
-batched_at Storing p b calls made is = is
-batched_at Counting p b calls made is = is
-batched_at Closing p b calls made is = is
+batched_at st p b calls made is = grind arith
 
 pub batched_stands : (p : ProducerState) (b : Bool) (calls : Puts) (made : List Made) → ProducerStands p calls made → ProducerStands (record p { batched = b }) calls made
-batched_stands p b calls made stands = record {
-  are = stands.are;
-  count_is = stands.count_is;
-  cell_is = stands.cell_is;
-  closed_is = stands.closed_is;
-  not_over = stands.not_over;
-  reply_is = stands.reply_is;
-  made_is = batched_at p.stage p b calls made stands.made_is;
-}
+batched_stands p b calls made stands = grind (arith, batched_at)

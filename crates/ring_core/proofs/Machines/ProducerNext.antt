@@ -1,5 +1,5 @@
 -- The access that the producer's machine has due is the next one of its call.
-use Rattle.std.proofs.Common.{◌≡◌, ◌⊎◌, inl, inr, ℕ, zero, suc, ◌+◌, ◌*◌, ◌%◌, ◌<◌, ◌≤◌, true, false, IfSome, Option, Some, None, List, [], ◌∷◌, ◌++◌, length, take, refl, sym, ap, subst, ◌∙◌, arith, append_assoc, length-append}
+use Rattle.std.proofs.Common.{◌≡◌, ◌⊎◌, inl, inr, ℕ, zero, suc, ◌+◌, ◌%◌, ◌<◌, ◌≤◌, true, false, IfSome, Option, Some, None, List, [], ◌∷◌, ◌++◌, length, take, refl, sym, ap, subst, ◌∙◌, arith, append_assoc, length-append, ◌*◌}
 use Rattle.std.proofs.Math.Nat.{mod-lt}
 use Rattle.std.proofs.lemmas.Bool.Decides.{nat_tests}
 use Rattle.bits_core.specs.declared.events.Side.TheVariants.{P}
@@ -7,7 +7,7 @@ use Rattle.bits_core.specs.declared.events.Bit.TheVariants.{X, Cell}
 use Rattle.bits_core.specs.declared.events.Access.{Access}
 use Rattle.bits_core.specs.declared.events.Access.TheVariants as begins
 use Rattle.bits_core.specs.declared.shapes.Shape.{Shape}
-use Rattle.bits_core.specs.Shape.{belongs, capacity_of, modulus_of, width_of}
+use Rattle.bits_core.specs.Shape.{capacity_of, modulus_of, width_of}
 use Rattle.bits_core.specs.Open.{IsOpenRight}
 use Rattle.bits_core.specs.Made.{Made, Write, answered, IsPrefix}
 use Rattle.register_core.specs.Machine.{IsNext}
@@ -17,7 +17,7 @@ use Rattle.register_core.specs.ScanState.{scan_phrase, row_read_by, due_scan}
 use Rattle.register_core.specs.Unary.{count_writes}
 use Rattle.register_core.specs.UnaryState.{UnaryStands, due_unary}
 use Rattle.ring_core.specs.declared.producers.Stage.TheVariants.{Scanning, Storing, Counting}
-use Rattle.ring_core.specs.Counts.{LeavesRoom, LeavesRoomFor, distance, number_past, Count, first_count, batch_phrase, IsCount}
+use Rattle.ring_core.specs.Counts.{LeavesRoom, LeavesRoomFor, number_past, Count, first_count, batch_phrase, IsCount}
 use Rattle.ring_core.specs.Calls.{IsScanning}
 use Rattle.ring_core.specs.Puts.{Puts, Stored, Full, words_phrase, put_phrase, put_phrases, put_program, IsBatch, IsPut, ArePuts}
 use Rattle.ring_core.specs.Puts as puts
@@ -48,10 +48,7 @@ begins_put shape items calls made part x are o of is made_is (rest, e) =
     )
 
 pub room_or_none : (shape : Shape) (n c : ℕ) → LeavesRoom shape n c ⊎ (LeavesRoom shape n c → ⊥)
-room_or_none shape n c = less_or_not (distance (modulus_of shape) n c) (capacity_of shape)
-  where
-    less_or_not : (a b : ℕ) → (a < b) ⊎ (a < b → ⊥)
-    less_or_not a b = grind arith
+room_or_none shape n c = grind arith
 
 -- a scan that leaves room lets the put store some of the items
 room_for : (shape : Shape) (n c : ℕ) (items : List ℕ) → LeavesRoom shape n c → (1 ≤ room_in shape n c) × LeavesRoomFor shape n c (length (take (room_in shape n c) items))
@@ -208,17 +205,7 @@ write_due w l = grind (arith, nat_tests)
 
 pub word_right :
     (p : ProducerState) (due : Option Access) → IsWritingWord p → p.word.written < p.word.width → due ≡ due_write p.word → IfSome due (IsOpenRight p.shape P)
-word_right p due writing more due_is =
-    subst (λ d. IfSome d (IsOpenRight p.shape P)) (sym (due_is ∙ write_due p.word more)) (in_shape cell_below digit_below, refl)
-  where
-    cell_below : p.word.cell < capacity_of p.shape
-    cell_below = subst (λ j. j < capacity_of p.shape) (sym writing.cell_is) (mod-lt (p.cell + p.index) p.shape.has_cells)
-
-    digit_below : p.word.written < width_of p.shape
-    digit_below = subst (λ n. p.word.written < n) writing.width_is more
-
-    in_shape : p.word.cell < capacity_of p.shape → p.word.written < width_of p.shape → belongs p.shape (Cell p.word.cell p.word.written) ≡ true
-    in_shape a b = grind (arith, nat_tests)
+word_right p due writing more due_is = grind (arith, write_due, mod-lt, nat_tests)
 
 pub next_word :
     (p : ProducerState) (calls : Puts) (made : List Made) (due : Option Access) → p.stage ≡ Storing → ProducerStands p calls made → IsBatch p.shape p.items → IsWritingWord p →
@@ -239,9 +226,7 @@ next_word p calls made due e stands batch writing keeping more due_is next =
     let access : Access = begins.Write (Cell p.word.cell p.word.written) (digit p.word.written p.word.item) in
     let due_some : due ≡ Some access = due_is ∙ write_due p.word more in
     let (x, rest, x_is, whole) = subst (λ d. IsNext (word_write p.word.width p.word.cell p.word.item) writes d) due_some (next writes words) in
-    let word_is : word_write p.word.width p.word.cell p.word.item ≡ word =
-    ap (λ k. word_write k p.word.cell p.word.item) writing.width_is ∙
-    ap (λ k. word_write (width_of p.shape) k p.word.item) (writing.cell_is ∙ far_from p.cell n p.index (capacity_of p.shape) stands.cell_is) in
+    let word_is : word_write p.word.width p.word.cell p.word.item ≡ word = grind (arith, far_from) in
     let (later, all) = words-split p.shape n p.items p.index p.most p.word.item writing.item_is keeping.0 in
     is_next p.shape (call_of p) (Put p.items) calls made due access (ap (λ st. call_at st p.items) e) due_some
     (λ answer one.

@@ -1,5 +1,5 @@
 -- A program of puts with one more put.
-use Rattle.std.proofs.Common.{◌≡◌, ℕ, ◌%◌, Option, Some, List, [], ◌∷◌, ◌++◌, refl, ap, ◌∙◌, append-nil, sym, append_assoc}
+use Rattle.std.proofs.Common.{◌≡◌, ℕ, ◌%◌, Option, Some, List, [], ◌∷◌, ◌++◌, refl, ap, ◌∙◌, append-nil, sym, append_assoc, arith}
 use Rattle.bits_core.specs.declared.shapes.Shape.{Shape}
 use Rattle.bits_core.specs.Shape.{modulus_of}
 use Rattle.register_core.specs.Row.{bits_after}
@@ -53,14 +53,12 @@ pub values-push :
     (shape : Shape) (c : Count) (xs : List Put) (seen : ℕ) (items : List ℕ) →
     put_values shape c.number (xs ++ Stored seen items ∷ []) ≡ put_values shape c.number xs ++ number_past (stored_count shape c xs).number items % modulus_of shape ∷ []
 values-push shape c [] seen items = refl
-values-push shape c (Stored u i ∷ xs) seen items =
-    ap (λ l. number_past c.number i % modulus_of shape ∷ l) (values-push shape (stored_after shape c (Stored u i)) xs seen items)
+values-push shape c (Stored u i ∷ xs) seen items = grind (arith, values-push shape (stored_after shape c (Stored u i)) xs seen items)
 values-push shape c (Full u ∷ xs) seen items = values-push shape c xs seen items
 
 pub values-full : (shape : Shape) (c : Count) (xs : List Put) (seen : ℕ) → put_values shape c.number (xs ++ Full seen ∷ []) ≡ put_values shape c.number xs
 values-full shape c [] seen = refl
-values-full shape c (Stored u i ∷ xs) seen =
-    ap (λ l. number_past c.number i % modulus_of shape ∷ l) (values-full shape (stored_after shape c (Stored u i)) xs seen)
+values-full shape c (Stored u i ∷ xs) seen = grind (arith, values-full shape (stored_after shape c (Stored u i)) xs seen)
 values-full shape c (Full u ∷ xs) seen = values-full shape c xs seen
 
 pub reply-push : (first : Option BatchReply) (xs : List Put) (x : Put) → last_put_reply first (xs ++ x ∷ []) ≡ Some (put_reply_to x)

@@ -3,7 +3,7 @@ use Rattle.std.proofs.Common.{◌≡◌, ◌⊎◌, inl, inr, ℕ, zero, suc, �
 use Rattle.std.proofs.lemmas.List.{append_cancel_left, map-append}
 use Rattle.bits_core.specs.declared.events.Side.TheVariants.{P}
 use Rattle.bits_core.specs.declared.events.Bit.{Bit}
-use Rattle.bits_core.specs.declared.events.Bit.TheVariants.{S, R, X, Cell}
+use Rattle.bits_core.specs.declared.events.Bit.TheVariants.{R, X, Cell}
 use Rattle.bits_core.specs.declared.shapes.Shape.{Shape}
 use Rattle.bits_core.specs.Shape.{AllFit, capacity_of, modulus_of, width_of, batch_of}
 use Rattle.bits_core.specs.Made.{Made, Read, Write}
@@ -11,13 +11,13 @@ use Rattle.register_core.specs.Row.{RowWrite, row_bit, writes_in}
 use Rattle.register_core.specs.Word.{digit, digit_writes, word_write}
 use Rattle.register_core.specs.ScanState.{zero_reads, scan_phrase, row_read_by}
 use Rattle.ring_core.specs.Counts.{LeavesRoom, LeavesRoomFor, number_past, Count, first_count, count_bits, batch_phrase, IsCount}
-use Rattle.ring_core.specs.Puts.{Put, Stored, Full, stored_after, stored_count, words_phrase, put_phrase, put_phrases, close_phrase, IsBatch, IsPut, ArePuts}
+use Rattle.ring_core.specs.Puts.{Put, Stored, Full, stored_after, words_phrase, put_phrase, put_phrases, close_phrase, IsBatch, IsPut, ArePuts}
 use Rattle.ring_core.specs.PutParts.{GoesBehind, count_behind, count_access, ScansOrCloses, ScansOn, StoresOrCounts, StoresOn, CountsOn}
 use Rattle.ring_core.specs.GoingOn.{LastPutsReadOne}
 use Rattle.ring_core.proofs.Readings.Phrases.{scan-front, scan_begins, same_scan, same_word_write, same_writes, length-digit_writes, digits_split}
 use Rattle.ring_core.proofs.Readings.PutsRead.{no_close, puts_stored, puts_full, no_room, NoCellFirst, count_first, words_first, digits_first, word_first}
 use Rattle.ring_core.proofs.CountRow.{batch_below, first_is_count, bits_long}
-use Rattle.ring_core.proofs.Readings.ItemsRead.{same_stored, same_full, stored_is_count}
+use Rattle.ring_core.proofs.Readings.ItemsRead.{first_puts}
 use Rattle.ring_core.proofs.LastBits.{AllOne, one-append, one_at, one-scan, one-writes}
 
 -- the producer's scan that returns a count
@@ -37,35 +37,10 @@ record From (shape : Shape) (c : Count) (rest : List Made) : Type 0 where
   are : ArePuts shape c.number puts
   rest_is : rest ≡ puts_from shape c puts close
 
--- calls that start with a put
-same_put :
-    (shape : Shape) (c : Count) (x : Put) (ys : List Put) (b : Bool) (zs : List Made) → IsCount shape c → IsPut shape c.number x → ArePuts shape c.number ys →
-    put_phrase shape c x ++ zs ≡ puts_from shape c ys b → (more : List Put) × (ys ≡ x ∷ more)
-same_put shape c (Stored u i) ys b zs is p q e =
-    let count : List Made = batch_phrase shape P c i in
-    let words : List Made = words_phrase shape c.number i in
-    same_stored shape c u i ys b (count ++ zs) is p q (count_first shape c i zs is p.2)
-    (sym (append_assoc (scan u ++ words) count zs) ∙ e)
-same_put shape c (Full u) ys b zs is p q e = same_full shape c u ys b zs p q e
-
-behind :
-    (shape : Shape) (c : Count) (xs ys : List Put) (b : Bool) (zs : List Made) → IsCount shape c → ArePuts shape c.number xs → ArePuts shape c.number ys →
-    put_phrases shape c xs ++ zs ≡ puts_from shape c ys b → From shape (stored_count shape c xs) zs
-behind shape c [] ys b zs is p q e = record { puts = ys; close = b; is_count = is; are = q; rest_is = e }
-behind shape c (x ∷ xs) ys b zs is p q e =
-    let phrase : List Made = put_phrase shape c x in
-    let after : Count = stored_after shape c x in
-    let front : phrase ++ (put_phrases shape after xs ++ zs) ≡ puts_from shape c ys b = sym (append_assoc phrase (put_phrases shape after xs) zs) ∙ e in
-    let (more, same) = same_put shape c x ys b (put_phrases shape after xs ++ zs) is p.0 q front in
-    let are : ArePuts shape c.number (x ∷ more) = subst (ArePuts shape c.number) same q in
-    let rest : put_phrases shape after xs ++ zs ≡ puts_from shape after more b =
-    append_cancel_left phrase (put_phrases shape after xs ++ zs) (puts_from shape after more b)
-    (front ∙ ap (λ l. puts_from shape c l b) same ∙ append_assoc phrase (put_phrases shape after more) (close_phrase b)) in
-    behind shape after xs more b zs (stored_is_count shape c x is) p.1 are.1 rest
-
 from_calls : (shape : Shape) (puts : List Put) (rest : List Made) → ArePuts shape 0 puts → GoesBehind shape puts rest → From shape (count_behind shape puts) rest
 from_calls shape puts rest are g =
-    behind shape first_count puts g.calls.puts g.calls.closes rest (first_is_count shape) are g.are (sym g.program_is)
+    let (more, f, e, is, later) = first_puts shape first_count puts g.calls.puts g.calls.closes rest (first_is_count shape) are g.are (sym g.program_is) in
+    record { puts = more; close = g.calls.closes; is_count = is; are = later; rest_is = e }
 
 -- ---- the next access
 
@@ -87,21 +62,13 @@ begins_call shape c x rest f = by_puts f.puts f.close f.rest_is
 -- a scan that has read zeros reads the next bit
 zeros_front : (bit_of : ℕ → Bit) (n : ℕ) (xs : List Made) → zero_reads bit_of (suc n) ++ xs ≡ Read (bit_of 0) false ∷ (zero_reads (λ i. bit_of (suc i)) n ++ xs)
 zeros_front bit_of zero xs = refl
-zeros_front bit_of (suc n) xs =
-    append_assoc (zero_reads bit_of (suc n)) (Read (bit_of (suc n)) false ∷ []) xs
-    ∙ zeros_front bit_of n (Read (bit_of (suc n)) false ∷ xs)
-    ∙ ap (λ l. Read (bit_of 0) false ∷ l) (sym (append_assoc (zero_reads (λ i. bit_of (suc i)) n) (Read (bit_of (suc n)) false ∷ []) xs))
+zeros_front bit_of (suc n) xs = grind (arith, append_assoc, zeros_front bit_of n (Read (bit_of (suc n)) false ∷ xs))
 
 scan_next :
     (bit_of : ℕ → Bit) (zeros c : ℕ) (x : Made) (xs ys : List Made) → zero_reads bit_of zeros ++ x ∷ xs ≡ scan_phrase bit_of c ++ ys →
     (v : Bool) × (x ≡ Read (bit_of zeros) v)
-scan_next bit_of zero c x xs ys e =
-    let begun = scan_begins bit_of c ys in
-    let first : x ∷ xs ≡ Read (bit_of 0) begun.0 ∷ begun.1 = e ∙ begun.2 in
-    (begun.0, cc)
-scan_next bit_of (suc zeros) zero x xs ys e =
-    let clash : Read (bit_of 0) false ∷ (zero_reads (λ i. bit_of (suc i)) zeros ++ x ∷ xs) ≡ Read (bit_of 0) true ∷ ys = sym (zeros_front bit_of zeros (x ∷ xs)) ∙ e in
-    absurd (cc)
+scan_next bit_of zero c x xs ys e = grind (arith, scan_begins bit_of c ys)
+scan_next bit_of (suc zeros) zero x xs ys e = grind (arith, zeros_front bit_of zeros (x ∷ xs))
 scan_next bit_of (suc zeros) (suc c) x xs ys e =
     let both : Read (bit_of 0) false ∷ (zero_reads (λ i. bit_of (suc i)) zeros ++ x ∷ xs) ≡ Read (bit_of 0) false ∷ (scan_phrase (λ i. bit_of (suc i)) c ++ ys) =
     sym (zeros_front bit_of zeros (x ∷ xs)) ∙ e ∙ ap (λ l. l ++ ys) (scan-front bit_of c) in
@@ -134,8 +101,7 @@ stores shape c seen zs room f = by_puts f.puts f.close f.are f.rest_is
   where
     by_puts : (puts : List Put) (close : Bool) → ArePuts shape c.number puts → scan seen ++ zs ≡ puts_from shape c puts close → StoresFrom shape c seen zs
     by_puts [] close are e = absurd (no_close close (row_read_by P) seen zs (sym e))
-    by_puts (Full u ∷ puts) close ((below, none), are) e =
-        absurd (no_room shape c.number seen u zs _ room none (e ∙ puts_full shape c u puts close))
+    by_puts (Full u ∷ puts) close ((below, none), are) e = grind (arith, no_room, puts_full)
     by_puts (Stored u i ∷ puts) close (is, are) e =
         let scans = same_scan (row_read_by P) seen u zs _ (e ∙ puts_stored shape c u i puts close) in
         record {
@@ -159,17 +125,8 @@ words_go_on :
 words_go_on shape n [] all zs tail f g none e = record { more = all; all_is = refl; fit = g; rest_is = e }
 words_go_on shape n (x ∷ xs) [] zs tail f g none e = absurd (words_first shape n x xs zs (λ j d v rest is. none j d v rest (sym e ∙ is)))
 words_go_on shape n (x ∷ xs) (y ∷ ys) zs tail f g none e =
-    let w : ℕ → List Made = word_write (width_of shape) (n % capacity_of shape) in
-    let first : (x ≡ y) × (words_phrase shape (suc n) xs ++ zs ≡ words_phrase shape (suc n) ys ++ tail) =
-    same_word_write (width_of shape) (n % capacity_of shape) x y _ _ f.0 g.0
-    (sym (append_assoc (w x) (words_phrase shape (suc n) xs) zs) ∙ e ∙ append_assoc (w y) (words_phrase shape (suc n) ys) tail) in
-    let left : WordsLeft shape (suc n) xs ys zs tail = words_go_on shape (suc n) xs ys zs tail f.1 g.1 none first.1 in
-    record {
-      more = left.more;
-      all_is = ap (λ l. y ∷ l) left.all_is ∙ ap (λ z. z ∷ (xs ++ left.more)) (sym first.0);
-      fit = left.fit;
-      rest_is = left.rest_is;
-    }
+    let first : (x ≡ y) × (words_phrase shape (suc n) xs ++ zs ≡ words_phrase shape (suc n) ys ++ tail) = grind (arith, same_word_write, append_assoc) in
+    grind (arith, words_go_on shape (suc n) xs ys zs tail f.1 g.1 none first.1)
 
 word_next :
     (cell n w value y : ℕ) (x : Made) (rest zs : List Made) → n < w →
@@ -178,14 +135,11 @@ word_next cell n w value y x rest zs l e =
     let (later, is) = digits_split y n w l in
     let here : RowWrite = record { bit = n; value = digit n y } in
     let made : List RowWrite → List Made = writes_in (Cell cell) in
-    let whole : made (digit_writes y w) ++ zs ≡ made (digit_writes y n) ++ (made (here ∷ later) ++ zs) =
-    ap (λ l. made l ++ zs) is ∙ ap (λ l. l ++ zs) (map-append (λ (u : RowWrite). Write (Cell cell u.bit) u.value) (digit_writes y n) (here ∷ later))
-    ∙ append_assoc (made (digit_writes y n)) (made (here ∷ later)) zs in
+    let whole : made (digit_writes y w) ++ zs ≡ made (digit_writes y n) ++ (made (here ∷ later) ++ zs) = grind (arith, map-append, append_assoc) in
     let parts : (digit_writes value n ≡ digit_writes y n) × (x ∷ rest ≡ made (here ∷ later) ++ zs) =
     same_writes cell (digit_writes value n) (digit_writes y n) (x ∷ rest) (made (here ∷ later) ++ zs)
     (length-digit_writes value n ∙ sym (length-digit_writes y n)) (e ∙ whole) in
-    let first : x ∷ rest ≡ made (here ∷ later) ++ zs = parts.1 in
-    (digit n y, cc)
+    grind arith
 
 some_write : (ws : List RowWrite) → 1 ≤ length ws → (w : RowWrite) × (more : List RowWrite) × (ws ≡ w ∷ more)
 some_write [] l = absurd (omega (arith, l))
@@ -204,9 +158,7 @@ first_word shape n y ys tail =
 left_words :
     (shape : Shape) (c : Count) (seen : ℕ) (items : List ℕ) (zs : List Made) → AllFit shape items → (s : StoresFrom shape c seen (words_phrase shape c.number items ++ zs)) →
     WordsLeft shape c.number items s.items zs (batch_phrase shape P c s.items ++ s.behind_it)
-left_words shape c seen items zs fit s =
-    words_go_on shape c.number items s.items zs (batch_phrase shape P c s.items ++ s.behind_it) fit s.is_put.2.fit
-    (count_first shape c s.items s.behind_it s.is_count s.is_put.2) s.rest_is
+left_words shape c seen items zs fit s = grind (arith, words_go_on, count_first)
 
 chooses :
     (shape : Shape) (c : Count) (seen : ℕ) (items : List ℕ) (x : Made) (rest : List Made) → LeavesRoom shape (c.number % modulus_of shape) seen → AllFit shape items →
@@ -227,8 +179,7 @@ chooses shape c seen items x rest room fit f =
         ((1 ≤ length items) × (w : RowWrite) × (more : List RowWrite) × (count_bits shape c items ≡ w ∷ more) × (x ≡ count_access w))
     by_more s left [] e =
         let all : s.items ≡ items = left.all_is ∙ ap (λ l. items ++ l) e ∙ append-nil items in
-        let is : x ∷ rest ≡ batch_phrase shape P c items ++ s.behind_it =
-        left.rest_is ∙ ap (λ l. words_phrase shape (number_past c.number items) l ++ (batch_phrase shape P c s.items ++ s.behind_it)) e ∙ ap (λ l. batch_phrase shape P c l ++ s.behind_it) all in
+        let is : x ∷ rest ≡ batch_phrase shape P c items ++ s.behind_it = grind arith in
         let batch : IsBatch shape items = subst (IsBatch shape) all s.is_put.2 in
         let (w, ws, bits) = some_write (count_bits shape c items) (bits_long shape c items s.is_count batch.some (omega (arith, batch.few, batch_below shape))) in
         let first : x ∷ rest ≡ count_access w ∷ (writes_in (row_bit P) ws ++ s.behind_it) = is ∙ ap (λ l. writes_in (row_bit P) l ++ s.behind_it) bits in
@@ -236,8 +187,6 @@ chooses shape c seen items x rest room fit f =
     by_more s left (y ∷ ys) e =
         let tail : List Made = batch_phrase shape P c s.items ++ s.behind_it in
         let (later, begun) = first_word shape (number_past c.number items) y ys tail in
-        let first : x ∷ rest ≡ Write (Cell (number_past c.number items % capacity_of shape) 0) (digit 0 y) ∷ later =
-        left.rest_is ∙ ap (λ l. words_phrase shape (number_past c.number items) l ++ tail) e ∙ begun in
         let long : length s.items ≡ length items + suc (length ys) = ap length left.all_is ∙ length-append items left.more ∙ ap (λ l. length items + length l) e in
         inl (digit 0 y, cc, omega (arith, s.is_put.1, long), omega (arith, s.is_put.2.few, long))
 
@@ -261,8 +210,7 @@ stores_on shape c seen items value digits x rest room fit below f =
         let cell : ℕ = number_past c.number items % capacity_of shape in
         let tail : List Made = batch_phrase shape P c s.items ++ s.behind_it in
         let (later, is) = digits_first value (suc digits) (omega arith) in
-        let front : tail ≡ Write (Cell cell 0) (digit 0 value) ∷ (writes_in (Cell cell) later ++ x ∷ rest) =
-        sym (ap (λ l. words_phrase shape (number_past c.number items) l ++ tail) e) ∙ sym left.rest_is ∙ ap (λ l. writes_in (Cell cell) l ++ x ∷ rest) is in
+        let front : tail ≡ Write (Cell cell 0) (digit 0 value) ∷ (writes_in (Cell cell) later ++ x ∷ rest) = grind arith in
         absurd (count_first shape c s.items s.behind_it s.is_count s.is_put.2 cell 0 (digit 0 value) _ front)
     by_more s left (y ∷ ys) e =
         let cell : ℕ = number_past c.number items % capacity_of shape in
@@ -285,47 +233,26 @@ counts_on shape c seen items u w writes more x rest room fit bits f =
         (s : StoresFrom shape c seen (words_phrase shape c.number items ++ (writes_in (row_bit P) (u ∷ writes) ++ x ∷ rest)))
         (left : WordsLeft shape c.number items s.items (writes_in (row_bit P) (u ∷ writes) ++ x ∷ rest) (batch_phrase shape P c s.items ++ s.behind_it))
         (behind_them : List ℕ) → left.more ≡ behind_them → x ≡ count_access w
-    by_more s left [] e =
-        let tail : List Made = batch_phrase shape P c s.items ++ s.behind_it in
-        let made : List Made = writes_in (row_bit P) (u ∷ writes) in
-        let all : s.items ≡ items = left.all_is ∙ ap (λ l. items ++ l) e ∙ append-nil items in
-        let on : made ++ x ∷ rest ≡ made ++ (writes_in (row_bit P) (w ∷ more) ++ s.behind_it) =
-        left.rest_is ∙ ap (λ l. words_phrase shape (number_past c.number items) l ++ tail) e ∙ ap (λ l. batch_phrase shape P c l ++ s.behind_it) all
-        ∙ ap (λ l. writes_in (row_bit P) l ++ s.behind_it) bits
-        ∙ ap (λ l. l ++ s.behind_it) (map-append (λ (z : RowWrite). Write (row_bit P z.bit) z.value) (u ∷ writes) (w ∷ more))
-        ∙ append_assoc made (writes_in (row_bit P) (w ∷ more)) s.behind_it in
-        let first : x ∷ rest ≡ writes_in (row_bit P) (w ∷ more) ++ s.behind_it = append_cancel_left made (x ∷ rest) (writes_in (row_bit P) (w ∷ more) ++ s.behind_it) on in
-        cc
+    by_more s left [] e = grind (arith, append-nil, map-append, append_assoc, append_cancel_left)
     by_more s left (y ∷ ys) e =
         let tail : List Made = batch_phrase shape P c s.items ++ s.behind_it in
         let (later, begun) = first_word shape (number_past c.number items) y ys tail in
-        let clash : Write (S u.bit) u.value ∷ (writes_in (row_bit P) writes ++ x ∷ rest) ≡ Write (Cell (number_past c.number items % capacity_of shape) 0) (digit 0 y) ∷ later =
-        left.rest_is ∙ ap (λ l. words_phrase shape (number_past c.number items) l ++ tail) e ∙ begun in
         absurd (cc)
 
 -- ---- the last bit
 
 one-words : (shape : Shape) (n : ℕ) (items : List ℕ) → AllOne (row_read_by P) (modulus_of shape) (words_phrase shape n items)
 one-words shape n [] = record {}
-one-words shape n (item ∷ items) =
-    one-append (row_read_by P) (modulus_of shape) (word_write (width_of shape) (n % capacity_of shape) item) (words_phrase shape (suc n) items)
-    (one-writes P (Cell (n % capacity_of shape)) (modulus_of shape) (digit_writes item (width_of shape))) (one-words shape (suc n) items)
+one-words shape n (item ∷ items) = search (arith, one-append, one-writes, one-words shape (suc n) items)
 
 one-put : (shape : Shape) (c : Count) (x : Put) → IsPut shape c.number x → AllOne (row_read_by P) (modulus_of shape) (put_phrase shape c x)
-one-put shape c (Stored u i) (below, room, batch) =
-    one-append (row_read_by P) (modulus_of shape) (scan u ++ words_phrase shape c.number i) (batch_phrase shape P c i)
-    (one-append (row_read_by P) (modulus_of shape) (scan u) (words_phrase shape c.number i) (one-scan P (modulus_of shape) u below) (one-words shape c.number i))
-    (one-writes P (row_bit P) (modulus_of shape) (count_bits shape c i))
+one-put shape c (Stored u i) (below, room, batch) = search (arith, one-append, one-scan, one-words, one-writes)
 one-put shape c (Full u) (below, none) = one-scan P (modulus_of shape) u below
 
 one-puts :
     (shape : Shape) (c : Count) (puts : List Put) (close : Bool) → ArePuts shape c.number puts → AllOne (row_read_by P) (modulus_of shape) (puts_from shape c puts close)
-one-puts shape c [] false are = record {}
-one-puts shape c [] true are = ((λ i v e last. absurd (cc)), record {})
-one-puts shape c (x ∷ puts) close (is, are) =
-    subst (AllOne (row_read_by P) (modulus_of shape)) (sym (append_assoc (put_phrase shape c x) (put_phrases shape (stored_after shape c x) puts) (close_phrase close)))
-    (one-append (row_read_by P) (modulus_of shape) (put_phrase shape c x) (puts_from shape (stored_after shape c x) puts close) (one-put shape c x is)
-    (one-puts shape (stored_after shape c x) puts close are))
+one-puts shape c [] close are = grind arith
+one-puts shape c (x ∷ puts) close (is, are) = grind (arith, append_assoc, one-append, one-put, one-puts shape (stored_after shape c x) puts close are)
 
 -- ---- the laws
 

@@ -1,9 +1,8 @@
 -- A program of takes with one more take, or with the take that returns Closed.
-use Rattle.std.proofs.Common.{Bool, true, false, ◌≡◌, ℕ, zero, suc, ◌+◌, ◌-◌, ◌%◌, Option, Some, List, [], ◌∷◌, ◌++◌, length, refl, sym, ap, ◌∙◌, arith, append_assoc, append-nil, length-append}
+use Rattle.std.proofs.Common.{Bool, true, ◌≡◌, ℕ, zero, suc, ◌+◌, ◌-◌, ◌%◌, Option, Some, List, [], ◌∷◌, ◌++◌, length, refl, sym, ap, ◌∙◌, arith, append_assoc, append-nil, length-append}
 use Rattle.std.proofs.lemmas.Nat.{pow_pos}
 use Rattle.bits_core.specs.declared.shapes.Shape.{Shape}
 use Rattle.bits_core.specs.Shape.{AllFit, capacity_of, modulus_of, width_of}
-use Rattle.bits_core.specs.Made.{Made}
 use Rattle.bits_core.specs.declared.events.Access.{Access}
 use Rattle.register_core.specs.Row.{bits_after}
 use Rattle.register_core.specs.Unary.{unary_writes, row_writes}
@@ -12,11 +11,10 @@ use Rattle.ring_core.specs.declared.replies.TakeReply.{TakeReply}
 use Rattle.ring_core.specs.Counts.{number_past, Count, first_count, IsCount}
 use Rattle.ring_core.specs.Takes.{Take, Takes, Item, ItemAfterClose, Empty, Open, Closed, count_after, taken_count, words_read, items_phrase, take_phrase, take_phrases, take_program, IsTake, SeesNone, IsTakeBatch, AreTakes, End}
 use Rattle.ring_core.proofs.Machines.OneWordMore.{WordsGoOn}
-use Rattle.ring_core.specs.ConsumerCalls.{Finding, Once, Twice, finding_phrase, Finds, IsTakeOf, count_taken, take_values, and_take, items_reply, take_reply_to, last_take_reply, last_items, reply_at_end, take_batch_reply, IsReplyToTake, AreItemsOfTake, IsBatchReplyToTake, ends_closed}
+use Rattle.ring_core.specs.ConsumerCalls.{Finding, Once, Twice, finding_phrase, Finds, IsTakeOf, count_taken, take_values, and_take, items_reply, take_reply_to, last_take_reply, last_items, take_batch_reply, IsReplyToTake, AreItemsOfTake, IsBatchReplyToTake, ends_closed}
 use Rattle.ring_core.specs.Items.{Tells, all_taken, taken_of}
 use Rattle.ring_core.specs.ConsumerState.{ConsumerState, consumer_due_at, takes_at}
 use Rattle.ring_core.specs.declared.consumers.Stage.{Stage}
-use Rattle.ring_core.specs.declared.consumers.Stage.TheVariants.{Idle, Scanning, Checking, Rescanning, Loading, Counting}
 use Rattle.ring_core.proofs.CountRow.{value_held, first_is_count, counted_is_count}
 use Rattle.ring_core.proofs.Readings.ByCalls.{takes_go_by_calls, calls-push}
 
@@ -67,17 +65,11 @@ all_taken-push (y ∷ xs) x = ap (λ l. taken_of y ++ l) (all_taken-push xs x) �
 
 -- the last take returned Closed
 pub closed_tells : (end : End) → ends_closed end ≡ true → Tells end
-closed_tells Open e = absurd (cc)
-closed_tells (Closed seen again) e = record {}
+closed_tells end e = grind arith
 
 -- a take is under way while an access is due
 pub due_at-takes : (st : Stage) (p : ConsumerState) (a : Access) → consumer_due_at st p ≡ Some a → takes_at st ≡ true
-due_at-takes Idle p a e = absurd (cc)
-due_at-takes Scanning p a e = refl
-due_at-takes Checking p a e = refl
-due_at-takes Rescanning p a e = refl
-due_at-takes Loading p a e = refl
-due_at-takes Counting p a e = refl
+due_at-takes st p a e = grind arith
 
 -- ---- the count's writes
 
@@ -92,10 +84,8 @@ values_hold shape c (Empty seen ∷ xs) = values_hold shape c xs
 
 pub values-empty : (shape : Shape) (c : Count) (xs : List Take) (seen : ℕ) → take_values shape c.number (xs ++ Empty seen ∷ []) ≡ take_values shape c.number xs
 values-empty shape c [] seen = refl
-values-empty shape c (Item u i ∷ xs) seen =
-    ap (λ l. number_past c.number i % modulus_of shape ∷ l) (values-empty shape (count_after shape c (Item u i)) xs seen)
-values-empty shape c (ItemAfterClose u v i ∷ xs) seen =
-    ap (λ l. number_past c.number i % modulus_of shape ∷ l) (values-empty shape (count_after shape c (ItemAfterClose u v i)) xs seen)
+values-empty shape c (Item u i ∷ xs) seen = grind (arith, values-empty shape (count_after shape c (Item u i)) xs seen)
+values-empty shape c (ItemAfterClose u v i ∷ xs) seen = grind (arith, values-empty shape (count_after shape c (ItemAfterClose u v i)) xs seen)
 values-empty shape c (Empty u ∷ xs) seen = values-empty shape c xs seen
 
 -- the bits after takes are those of a count
@@ -123,68 +113,49 @@ take_of (Once seen) items = Item seen items
 take_of (Twice seen again) items = ItemAfterClose seen again items
 
 pub take_of-is : (shape : Shape) (k wanted : ℕ) (look : Finding) (items : List ℕ) → Finds shape k wanted look (length items) → IsTakeBatch shape items → IsTake shape k (take_of look items) × IsTakeOf shape k wanted (take_of look items)
-take_of-is shape k wanted (Once seen) items (finds, all) batch = ((finds, batch), all)
-take_of-is shape k wanted (Twice seen again) items (none, finds, all) batch = ((none, finds, batch), all)
+take_of-is shape k wanted look items h1 batch = grind arith
 
 -- its items, its reply and its count
 pub take_of-items : (look : Finding) (items : List ℕ) → taken_of (take_of look items) ≡ items
-take_of-items (Once seen) items = refl
-take_of-items (Twice seen again) items = refl
+take_of-items look items = grind arith
 
 pub take_of-replies : (look : Finding) (items : List ℕ) → take_reply_to (take_of look items) ≡ items_reply items
-take_of-replies (Once seen) items = refl
-take_of-replies (Twice seen again) items = refl
+take_of-replies look items = grind arith
 
 pub take_of-takes : (shape : Shape) (c : Count) (look : Finding) (items : List ℕ) → (count_after shape c (take_of look items)).number ≡ number_past c.number items
-take_of-takes shape c (Once seen) items = refl
-take_of-takes shape c (Twice seen again) items = refl
+take_of-takes shape c look items = grind arith
 
 -- the reply of a take by how many items it took
 pub batched-reply :
     (calls : Takes) (taking : Bool) (reply : Option TakeReply) (items : List ℕ) → IsReplyToTake calls taking reply → AreItemsOfTake calls taking items →
     IsBatchReplyToTake calls taking (take_batch_reply reply items)
-batched-reply calls true reply items none any = ap (λ r. take_batch_reply r items) none
-batched-reply calls false reply items replied taken = ap (λ r. take_batch_reply r items) replied ∙ ap (take_batch_reply (reply_at_end calls.end calls.takes)) taken
+batched-reply calls taking reply items none any = grind arith
 
 -- the values of the count with this take
 pub values-push :
     (shape : Shape) (c : Count) (xs : List Take) (look : Finding) (items : List ℕ) →
     take_values shape c.number (xs ++ take_of look items ∷ []) ≡ take_values shape c.number xs ++ number_past (taken_count shape c xs).number items % modulus_of shape ∷ []
-values-push shape c [] (Once seen) items = refl
-values-push shape c [] (Twice seen again) items = refl
-values-push shape c (Item u i ∷ xs) look items =
-    ap (λ l. number_past c.number i % modulus_of shape ∷ l) (values-push shape (count_after shape c (Item u i)) xs look items)
-values-push shape c (ItemAfterClose u v i ∷ xs) look items =
-    ap (λ l. number_past c.number i % modulus_of shape ∷ l) (values-push shape (count_after shape c (ItemAfterClose u v i)) xs look items)
+values-push shape c [] look items = grind arith
+values-push shape c (Item u i ∷ xs) look items = grind (arith, values-push shape (count_after shape c (Item u i)) xs look items)
+values-push shape c (ItemAfterClose u v i ∷ xs) look items = grind (arith, values-push shape (count_after shape c (ItemAfterClose u v i)) xs look items)
 values-push shape c (Empty u ∷ xs) look items = values-push shape c xs look items
 
 -- its accesses are those by which it found the items, and then those that take them
 pub take_of-phrase : (shape : Shape) (c : Count) (look : Finding) (items : List ℕ) → take_phrase shape c (take_of look items) ≡ finding_phrase look ++ items_phrase shape c items
-take_of-phrase shape c (Once seen) items = refl
-take_of-phrase shape c (Twice seen again) items = refl
+take_of-phrase shape c look items = grind arith
 
 -- the words of items and one more
 pub words_read-push :
     (shape : Shape) (n : ℕ) (items : List ℕ) (item : ℕ) →
     words_read shape n (items ++ item ∷ []) ≡ words_read shape n items ++ word_read (width_of shape) ((n + length items) % capacity_of shape) item
-words_read-push shape n [] item =
-    let none : n ≡ n + 0 = omega arith in
-    append-nil (word_read (width_of shape) (n % capacity_of shape) item) ∙ ap (λ k. word_read (width_of shape) (k % capacity_of shape) item) none
-words_read-push shape n (x ∷ xs) item =
-    let word : List Made = word_read (width_of shape) (n % capacity_of shape) x in
-    let numbers : suc n + length xs ≡ n + suc (length xs) = omega arith in
-    ap (λ l. word ++ l) (words_read-push shape (suc n) xs item) ∙ sym (append_assoc word (words_read shape (suc n) xs) _) ∙
-    ap (λ k. (word ++ words_read shape (suc n) xs) ++ word_read (width_of shape) (k % capacity_of shape) item) numbers
+words_read-push shape n [] item = grind (arith, append-nil)
+words_read-push shape n (x ∷ xs) item = grind (arith, append_assoc, words_read-push shape (suc n) xs item)
 
 -- the words of two lists of items
 pub words_read-append :
     (shape : Shape) (n : ℕ) (xs ys : List ℕ) → words_read shape n (xs ++ ys) ≡ words_read shape n xs ++ words_read shape (n + length xs) ys
 words_read-append shape n [] ys = let none : n ≡ n + 0 = omega arith in ap (λ k. words_read shape k ys) none
-words_read-append shape n (x ∷ xs) ys =
-    let word : List Made = word_read (width_of shape) (n % capacity_of shape) x in
-    let numbers : suc n + length xs ≡ n + suc (length xs) = omega arith in
-    ap (λ l. word ++ l) (words_read-append shape (suc n) xs ys) ∙ sym (append_assoc word (words_read shape (suc n) xs) _) ∙
-    ap (λ k. (word ++ words_read shape (suc n) xs) ++ words_read shape k ys) numbers
+words_read-append shape n (x ∷ xs) ys = grind (arith, append_assoc, words_read-append shape (suc n) xs ys)
 
 -- items of 0
 abbrev pub zeros : ℕ → List ℕ

@@ -6,7 +6,6 @@ use Rattle.bits_core.specs.declared.events.Side.TheVariants.{C}
 use Rattle.bits_core.specs.declared.events.Bit.{Bit}
 use Rattle.bits_core.specs.declared.events.Bit.TheVariants.{R, X, Cell}
 use Rattle.bits_core.specs.declared.events.Access.{Access}
-use Rattle.bits_core.specs.declared.events.Access.TheVariants as begins
 use Rattle.bits_core.specs.declared.shapes.Shape.{Shape}
 use Rattle.bits_core.specs.Shape.{capacity_of, modulus_of, take_batch_of, width_of}
 use Rattle.bits_core.specs.Made.{Made, Read, Write, access_of, answered}
@@ -14,17 +13,16 @@ use Rattle.register_core.specs.Phrases.{row_bit, bits_after, writes_in, unary_ph
 use Rattle.register_core.specs.Row.{RowWrite}
 use Rattle.register_core.specs.Word.{digit, digit_reads, word_read}
 use Rattle.register_core.specs.ScanState.{scan_phrase, row_read_by}
-use Rattle.ring_core.specs.Counts.{distance, number_past, Count, first_count, count_bits, batch_phrase, IsCount}
-use Rattle.ring_core.specs.Takes.{Take, Takes, End, Item, ItemAfterClose, Empty, Open, Closed, count_after, taken_count, words_read, items_phrase, take_phrase, take_phrases, take_program, SeesItems, IsTakeBatch, IsTake, AreTakes}
+use Rattle.ring_core.specs.Counts.{number_past, Count, first_count, count_bits, batch_phrase, IsCount}
+use Rattle.ring_core.specs.Takes.{Take, Takes, End, Item, ItemAfterClose, Empty, Open, Closed, count_after, taken_count, words_read, items_phrase, take_phrases, take_program, SeesItems, IsTakeBatch, IsTake, AreTakes}
 use Rattle.ring_core.specs.ConsumerCalls.{count_taken, TakesAll}
 use Rattle.ring_core.specs.GoingOn.{AreWanted, EndInCellRead, TakesPart, TakesGoOn, TakesGoOnAlike}
 use Rattle.ring_core.proofs.CountRow.{past_is, bits_long, first_is_count, counted_is_count, take_batch_below}
 use Rattle.ring_core.proofs.Machines.GoingOn.{Shows, clash, access_back}
 use Rattle.ring_core.proofs.Readings.Phrases.{scan-front}
 use Rattle.ring_core.proofs.Machines.TakeCalls.{are-last, end-sees_none, calls_are_count}
-use Rattle.ring_core.proofs.Readings.TakenRead.{from_take, first_takes}
 use Rattle.ring_core.proofs.Readings.TakesFirst.{scan, calls_from, item_first, after_first, empty_first, closed_first}
-use Rattle.ring_core.proofs.Readings.TakesRead.{digits_first}
+use Rattle.ring_core.proofs.Readings.TakesRead.{digits_first, from_take, first_takes}
 use Rattle.ring_core.proofs.Readings.Over.{first_takes as are_front}
 
 -- ---- two lists of accesses
@@ -69,21 +67,12 @@ or_apart :
     (shape : Shape) (wanted : ℕ) (x y : Made) (xs ys : List Made) → access_of x ≡ access_of y → (x ≡ y → ⊥) → AskAnyway shape wanted (x ∷ xs) (y ∷ ys)
 or_apart shape wanted x y xs ys same apart may = (inl same, λ e. absurd (apart e))
 
-or_parts :
-    (shape : Shape) (wanted : ℕ) (x y : Made) (xs ys : List Made) (may : Type 0) → may → TakesPart shape wanted (access_of x) (access_of y) → (x ≡ y → ⊥) →
-    AskOr shape wanted may (x ∷ xs) (y ∷ ys)
-or_parts shape wanted x y xs ys may is part apart = (inr (is, part), λ e. absurd (apart e))
-
 or_scan :
     (shape : Shape) (wanted : ℕ) (row : ℕ → Bit) (c d : ℕ) (xs ys : List Made) → (c ≡ d → AskAnyway shape wanted xs ys) →
     AskAnyway shape wanted (scan_phrase row c ++ xs) (scan_phrase row d ++ ys)
 or_scan shape wanted row zero zero xs ys on may = or_first shape wanted (Read (row 0) true) (Read (row 0) true) xs ys refl (λ e. on refl) may
-or_scan shape wanted row zero (suc d) xs ys on may =
-    or_both shape wanted may (the_same (scan_phrase row 0 ++ xs)) (ap (λ l. l ++ ys) (scan-front row d))
-    (or_apart shape wanted (Read (row 0) true) (Read (row 0) false) xs (scan_phrase (λ i. row (suc i)) d ++ ys) refl (λ e. (absurd (cc))) may)
-or_scan shape wanted row (suc c) zero xs ys on may =
-    or_both shape wanted may (ap (λ l. l ++ xs) (scan-front row c)) (the_same (scan_phrase row 0 ++ ys))
-    (or_apart shape wanted (Read (row 0) false) (Read (row 0) true) (scan_phrase (λ i. row (suc i)) c ++ xs) ys refl (λ e. (absurd (cc))) may)
+or_scan shape wanted row zero (suc d) xs ys on may = grind (arith, or_both, the_same, scan-front, or_apart)
+or_scan shape wanted row (suc c) zero xs ys on may = grind (arith, or_both, scan-front, the_same, or_apart)
 or_scan shape wanted row (suc c) (suc d) xs ys on may =
     or_both shape wanted may (ap (λ l. l ++ xs) (scan-front row c)) (ap (λ l. l ++ ys) (scan-front row d))
     (or_first shape wanted (Read (row 0) false) (Read (row 0) false) (scan_phrase (λ i. row (suc i)) c ++ xs) (scan_phrase (λ i. row (suc i)) d ++ ys) refl
@@ -142,16 +131,8 @@ or_words :
     (shape : Shape) (wanted n : ℕ) (us vs : List ℕ) (xs ys : List Made) → (length us ≡ length vs → AskAnyway shape wanted xs ys) →
     PartsBy shape wanted (length us) (length vs) → CountsFirst xs → CountsFirst ys → AskBehindWord shape wanted (words_read shape n us ++ xs) (words_read shape n vs ++ ys)
 or_words shape wanted n [] [] xs ys on by counts counts' may is = on refl may
-or_words shape wanted n [] (b ∷ vs) xs ys on by (i, v, rest, e) counts' may is =
-    let (rest', f) = first_digit shape n b vs ys in
-    let part : TakesPart shape wanted (begins.Write (R i) v) (begins.Read (Cell (n % capacity_of shape) 0)) = inr ((i, v, refl), (n % capacity_of shape, refl), by.0 (omega arith)) in
-    or_both shape wanted may e f
-    (or_parts shape wanted (Write (R i) v) (Read (Cell (n % capacity_of shape) 0) (digit 0 b)) rest rest' may is part (λ g. (absurd (cc))))
-or_words shape wanted n (a ∷ us) [] xs ys on by counts (i, v, rest', f) may is =
-    let (rest, e) = first_digit shape n a us xs in
-    let part : TakesPart shape wanted (begins.Read (Cell (n % capacity_of shape) 0)) (begins.Write (R i) v) = inl ((n % capacity_of shape, refl), (i, v, refl), by.1 (omega arith)) in
-    or_both shape wanted may e f
-    (or_parts shape wanted (Read (Cell (n % capacity_of shape) 0) (digit 0 a)) (Write (R i) v) rest rest' may is part (λ g. (absurd (cc))))
+or_words shape wanted n [] (b ∷ vs) xs ys on by (i, v, rest, e) counts' may is = grind (arith, first_digit shape n b vs ys)
+or_words shape wanted n (a ∷ us) [] xs ys on by counts (i, v, rest', f) may is = grind (arith, first_digit shape n a us xs)
 or_words shape wanted n (a ∷ us) (b ∷ vs) xs ys on by counts counts' may is =
     let word : ℕ → List Made = word_read (width_of shape) (n % capacity_of shape) in
     let more : List Made = words_read shape (suc n) us in
@@ -179,11 +160,7 @@ or_items shape wanted c (a ∷ us) (b ∷ vs) left right is batch batch' on by m
     (counts_first shape c (a ∷ us) left is batch) (counts_first shape c (b ∷ vs) right is batch')) may)
   where
     behind : length us ≡ length vs → AskAnyway shape wanted (batch_phrase shape C c (a ∷ us) ++ left) (batch_phrase shape C c (b ∷ vs) ++ right)
-    behind e =
-        let count : List ℕ → List Made = batch_phrase shape C c in
-        let past : number_past c.number (b ∷ vs) ≡ number_past c.number (a ∷ us) = omega (arith, past_is c.number (a ∷ us), past_is c.number (b ∷ vs), e) in
-        let same : count (b ∷ vs) ≡ count (a ∷ us) = ap (λ v. writes_in (row_bit C) (unary_phrase c.bits (v % modulus_of shape))) past in
-        λ may. or_both shape wanted may (the_same (count (a ∷ us) ++ left)) (ap (λ l. l ++ right) same) (or_behind shape wanted (count (a ∷ us)) left right (on (ap suc e)) may)
+    behind e = grind (arith, past_is, or_both, the_same, or_behind)
 
 -- ---- a take of at most `wanted` items, next to any takes
 
@@ -195,14 +172,7 @@ shown shape k c items sees batch = (batch.some, sees, (omega arith, inl refl))
 parts_by :
     (shape : Shape) (k wanted c d : ℕ) (us vs : List ℕ) → c ≡ d → TakesAll shape k wanted c (length us) → SeesItems shape k d (length vs) → IsTakeBatch shape vs →
     PartsBy shape wanted (length us) (length vs)
-parts_by shape k wanted c d us vs same (few, all) (below, shows, room) batch = ((λ less. by less all), (λ more. omega (arith, few, more, batch.some)))
-  where
-    by : length us < length vs → (length us ≡ wanted) ⊎ (length us ≡ distance (modulus_of shape) c (k % modulus_of shape)) → wanted < take_batch_of shape
-    by less (inl all) = omega (arith, all, less, batch.few)
-    by less (inr all) =
-        let far : distance (modulus_of shape) c (k % modulus_of shape) ≡ distance (modulus_of shape) d (k % modulus_of shape) =
-        ap (λ n. distance (modulus_of shape) n (k % modulus_of shape)) same in
-        absurd (omega (arith, all, far, shows, less))
+parts_by shape k wanted c d us vs same (few, all) (below, shows, room) batch = grind arith
 
 -- the count after items, by the number that follows them
 abbrev count_at : Shape → Count → ℕ → Count
@@ -216,20 +186,14 @@ or_past :
     (shape : Shape) (wanted : ℕ) (k : Count) (us vs : List ℕ) (xs ys : List Take) (a b : End) → AreTakes shape (number_past k.number vs) ys b →
     (AreTakes shape (number_past k.number us) ys b → AskAnyway shape wanted (calls_from shape (count_past shape k us) xs a) (calls_from shape (count_past shape k us) ys b)) →
     length us ≡ length vs → AskAnyway shape wanted (calls_from shape (count_past shape k us) xs a) (calls_from shape (count_past shape k vs) ys b)
-or_past shape wanted k us vs xs ys a b q on long may =
-    let past : number_past k.number vs ≡ number_past k.number us = omega (arith, past_is k.number us, past_is k.number vs, long) in
-    subst (λ n. AskOr shape wanted may (calls_from shape (count_past shape k us) xs a) (calls_from shape (count_at shape k n) ys b)) (sym past)
-    (on (subst (λ n. AreTakes shape n ys b) past q) may)
+or_past shape wanted k us vs xs ys a b q on long may = grind (arith, past_is)
 
 beside :
     (shape : Shape) (wanted j : ℕ) (k : Count) (xs : List Take) (a : End) (ys : List Take) (b : End) → IsCount shape k → AreTakes shape k.number xs a →
     AreWanted shape (λ _. wanted) j k.number xs → AreTakes shape k.number ys b → AskAnyway shape wanted (calls_from shape k xs a) (calls_from shape k ys b)
 beside shape wanted j k [] Open ys b is p of q may = tt
 beside shape wanted j k [] (Closed c c') [] Open is p of q may = or_none shape wanted (calls_from shape k [] (Closed c c')) may
-beside shape wanted j k [] (Closed c c') [] (Closed d d') is p of q may =
-    or_both shape wanted may (closed_first shape k c c') (closed_first shape k d d')
-    (or_scan shape wanted (row_read_by C) c d _ _ (λ e. or_first shape wanted (Read X true) (Read X true) _ _ refl
-    (λ f. or_scan shape wanted (row_read_by C) c' d' [] [] (λ g m. tt))) may)
+beside shape wanted j k [] (Closed c c') [] (Closed d d') is p of q may = search (arith, or_both, closed_first, or_scan, or_first)
 beside shape wanted j k [] (Closed c c') (Item d vs ∷ ys) b is (none, none') of ((sees', batch'), q) may =
     or_both shape wanted may (closed_first shape k c c') (item_first shape k d vs ys b)
     (or_scan shape wanted (row_read_by C) c d _ _ (λ e. absurd (clash shape k.number (length vs) d c (length vs) (sym e) (shown shape k.number d vs sees' batch') none)) may)
@@ -317,14 +281,7 @@ reads_behind front (z ∷ part) is =
 calls_behind :
     (shape : Shape) (c : Count) (xs ys : List Take) (end : End) → calls_from shape c (xs ++ ys) end ≡ take_phrases shape c xs ++ calls_from shape (taken_count shape c xs) ys end
 calls_behind shape c [] ys end = refl
-calls_behind shape c (x ∷ xs) ys end =
-    from_take shape c x (xs ++ ys) end
-    ∙ ap (λ l. take_phrase shape c x ++ l) (calls_behind shape (count_after shape c x) xs ys end)
-    ∙ sym (append_assoc (take_phrase shape c x) (take_phrases shape (count_after shape c x) xs) (calls_from shape (taken_count shape c (x ∷ xs)) ys end))
-
-are_behind : (shape : Shape) (c : Count) (xs ys : List Take) (end : End) → AreTakes shape c.number (xs ++ ys) end → AreTakes shape (taken_count shape c xs).number ys end
-are_behind shape c [] ys end are = are
-are_behind shape c (x ∷ xs) ys end (is, are) = are_behind shape (count_after shape c x) xs ys end are
+calls_behind shape c (x ∷ xs) ys end = grind (arith, from_take, append_assoc, calls_behind shape (count_after shape c x) xs ys end)
 
 -- one more take after those that were made, next to any takes
 parts :
@@ -339,15 +296,9 @@ parts shape wanted calls b part a y rest later xs end front are_calls are beside
     let phrases : List Made = take_phrases shape first_count calls.takes in
     let k : Count = count_taken shape calls in
     let x : Made = answered a true in
-    let (ys, same) = first_takes shape first_count (first_is_count shape) calls.takes b.takes front b.end (part ++ y ∷ rest) are_calls are
+    let (ys, same, right, last, are_ys) = first_takes shape first_count (first_is_count shape) calls.takes b.takes front b.end (part ++ y ∷ rest) are_calls are
     (sym (append_assoc phrases part (y ∷ rest)) ∙ sym e) in
-    let are_ys : AreTakes shape k.number ys b.end = are_behind shape first_count calls.takes ys b.end (subst (λ l. AreTakes shape 0 l b.end) same are) in
-    let left : part ++ x ∷ later ≡ calls_from shape k xs end =
-    append_cancel_left phrases (part ++ x ∷ later) (calls_from shape k xs end)
-    (sym (append_assoc phrases part (x ∷ later)) ∙ sym (append_assoc (phrases ++ part) (x ∷ []) later) ∙ begins ∙ calls_behind shape first_count calls.takes xs end) in
-    let right : part ++ y ∷ rest ≡ calls_from shape k ys b.end =
-    append_cancel_left phrases (part ++ y ∷ rest) (calls_from shape k ys b.end)
-    (sym (append_assoc phrases part (y ∷ rest)) ∙ sym e ∙ ap (λ l. calls_from shape first_count l b.end) same ∙ calls_behind shape first_count calls.takes ys b.end) in
+    let left : part ++ x ∷ later ≡ calls_from shape k xs end = grind (arith, append_cancel_left, append_assoc, calls_behind) in
     elim (next_or shape wanted part x y later rest ⊥ (or_both shape wanted ⊥ left right (beside ys are_ys ⊥))) [
       | inl alike ↦ inl (sym alike ∙ access_back a true)
       | inr (may, part_so) ↦ inr (reads_behind phrases part may, subst (λ z. TakesPart shape wanted z (access_of y)) (access_back a true) part_so)
@@ -379,9 +330,7 @@ takes-go_on shape wanted calls b made a y rest (part, made_is) goes are e =
 
 -- a take then takes all that a take of one asks for
 one_wanted : (shape : Shape) → take_batch_of shape ≡ 1 → (k seen : ℕ) (items : List ℕ) → IsTakeBatch shape items → TakesAll shape k 1 seen (length items)
-one_wanted shape one k seen items batch =
-    let single : length items ≡ 1 = omega (arith, one, batch.some, batch.few) in
-    (omega (arith, single), inl single)
+one_wanted shape one k seen items batch = grind arith
 
 all_want_one : (shape : Shape) → take_batch_of shape ≡ 1 → (j k : ℕ) (xs : List Take) (end : End) → AreTakes shape k xs end → AreWanted shape (λ _. 1) j k xs
 all_want_one shape one j k [] end are = tt

@@ -8,7 +8,7 @@ use Rattle.bits_core.specs.Made.{Made, Read}
 use Rattle.register_core.specs.ScanState.{scan_phrase, row_read_by}
 use Rattle.ring_core.specs.Counts.{number_past, Count, first_count, batch_phrase}
 use Rattle.ring_core.specs.Puts.{Put, Stored, Full, Puts, stored_in, stored_after, stored_count, words_phrase, put_phrase, put_phrases}
-use Rattle.ring_core.specs.Takes.{Take, Item, ItemAfterClose, Empty, End, Takes, taken_in, count_after, taken_count, words_read, take_phrase, take_phrases}
+use Rattle.ring_core.specs.Takes.{Take, Item, ItemAfterClose, Empty, End, Takes, taken_in, count_after, taken_count, take_phrase, take_phrases}
 use Rattle.ring_core.specs.Items.{events_in}
 use Rattle.ring_core.proofs.OverSpans.Spans.{Span, Outcome, Passes, Stops, Asks, counts, whole, IsSpanAt}
 use Rattle.ring_core.proofs.OverSpans.LookSpans.{Look, look, put_looks, take_looks, span_of, spans, put_spans, take_spans}
@@ -63,17 +63,8 @@ pub behind_puts :
     IsSpanAt (spans P shape c (put_looks (before ++ rest))) (events_in (put_phrases shape c before) + s) (put_counts before + n) x
 behind_puts shape c [] rest s n x st = stands_at (spans P shape c (put_looks rest)) s (0 + s) n (0 + n) x (omega arith) (omega arith) st
 behind_puts shape c (Stored seen items ∷ before) rest s n x st =
-    let next : Count = stored_after shape c (Stored seen items) in
-    stands_behind (span_of P shape c (look seen (Passes items))) (spans P shape next (put_looks (before ++ rest)))
-    (events_in (put_phrases shape next before) + s) (put_counts before + n) _ _ x
-    (omega (arith, length-append (put_phrase shape c (Stored seen items)) (put_phrases shape next before), put_phrase-stored shape c seen items)) (omega arith)
-    (behind_puts shape next before rest s n x st)
-behind_puts shape c (Full seen ∷ before) rest s n x st =
-    let a : List Made = scan_phrase (row_read_by P) seen in
-    stands_behind (span_of P shape c (look seen Stops)) (spans P shape c (put_looks (before ++ rest)))
-    (events_in (put_phrases shape c before) + s) (put_counts before + n) _ _ x
-    (omega (arith, length-append a (put_phrases shape c before))) (omega arith)
-    (behind_puts shape c before rest s n x st)
+    grind (arith, stands_behind, length-append, put_phrase-stored, behind_puts shape (stored_after shape c (Stored seen items)) before rest s n x st)
+behind_puts shape c (Full seen ∷ before) rest s n x st = grind (arith, stands_behind, length-append, behind_puts shape c before rest s n x st)
 
 -- the span of a look that is there
 pub record HasSpan (s : Side) (xs : List Span) (n start stop seen : ℕ) (outcome : Outcome) : Type 0 where
@@ -88,8 +79,7 @@ pub record HasSpan (s : Side) (xs : List Span) (n start stop seen : ℕ) (outcom
 has_span :
     (s : Side) (shape : Shape) (c : Count) (l : Look) (xs : List Span) (n start stop : ℕ) → IsSpanAt xs start n (span_of s shape c l) →
     stop ≡ start + whole (span_of s shape c l) → HasSpan s xs n start stop l.seen l.outcome
-has_span s shape c l xs n start stop st e =
-    record { span = span_of s shape c l; stands = st; seen_is = refl; outcome_is = refl; scan_is = refl; stop_is = e }
+has_span s shape c l xs n start stop st e = grind arith
 
 -- the events of puts and of one more
 put_phrases-push :
@@ -102,8 +92,7 @@ put_outcome (Stored seen items) = Passes items
 put_outcome (Full seen) = Stops
 
 pub put_size : (x : Put) → counts (put_outcome x) ≡ length (put_items x)
-put_size (Stored seen items) = refl
-put_size (Full seen) = refl
+put_size x = grind arith
 
 first_stands : (y : Span) (ys : List Span) → IsSpanAt (y ∷ ys) 0 0 y
 first_stands y ys = inl (refl, refl, refl)
@@ -156,22 +145,13 @@ stored_number shape c (x ∷ puts) = stored_number shape (stored_after shape c x
 -- the accesses of a take, by the spans of its looks
 pub take_phrase-item :
     (shape : Shape) (c : Count) (seen : ℕ) (items : List ℕ) → events_in (take_phrase shape c (Item seen items)) ≡ whole (span_of C shape c (look seen (Passes items)))
-take_phrase-item shape c seen items =
-    let a : List Made = scan_phrase (row_read_by C) seen in
-    let b : List Made = words_read shape c.number items in
-    let d : List Made = batch_phrase shape C c items in
-    omega (arith, length-append a (b ++ d), length-append b d)
+take_phrase-item shape c seen items = grind (arith, length-append)
 
 pub take_phrase-after :
     (shape : Shape) (c : Count) (seen again : ℕ) (items : List ℕ) →
     events_in (take_phrase shape c (ItemAfterClose seen again items)) ≡
     whole (span_of C shape c (look seen (Asks true))) + whole (span_of C shape c (look again (Passes items)))
-take_phrase-after shape c seen again items =
-    let a : List Made = scan_phrase (row_read_by C) seen in
-    let a' : List Made = scan_phrase (row_read_by C) again in
-    let b : List Made = words_read shape c.number items in
-    let d : List Made = batch_phrase shape C c items in
-    omega (arith, length-append (a ++ Read X true ∷ a') (b ++ d), length-append a (Read X true ∷ a'), length-append b d)
+take_phrase-after shape c seen again items = grind (arith, length-append)
 
 pub take_phrase-empty :
     (shape : Shape) (c : Count) (seen : ℕ) → events_in (take_phrase shape c (Empty seen)) ≡ whole (span_of C shape c (look seen (Asks false)))
@@ -183,11 +163,7 @@ pub behind_takes :
     IsSpanAt (spans C shape c (take_looks (before ++ rest) end)) (events_in (take_phrases shape c before) + s) (take_counts before + n) x
 behind_takes shape c [] rest end s n x st = stands_at (spans C shape c (take_looks rest end)) s (0 + s) n (0 + n) x (omega arith) (omega arith) st
 behind_takes shape c (Item seen items ∷ before) rest end s n x st =
-    let next : Count = count_after shape c (Item seen items) in
-    stands_behind (span_of C shape c (look seen (Passes items))) (spans C shape next (take_looks (before ++ rest) end))
-    (events_in (take_phrases shape next before) + s) (take_counts before + n) _ _ x
-    (omega (arith, length-append (take_phrase shape c (Item seen items)) (take_phrases shape next before), take_phrase-item shape c seen items)) (omega arith)
-    (behind_takes shape next before rest end s n x st)
+    grind (arith, stands_behind, take_looks, length-append, take_phrase-item, behind_takes shape (count_after shape c (Item seen items)) before rest end s n x st)
 behind_takes shape c (ItemAfterClose seen again items ∷ before) rest end s n x st =
     let next : Count = count_after shape c (ItemAfterClose seen again items) in
     let z : Span = span_of C shape c (look again (Passes items)) in
@@ -200,10 +176,7 @@ behind_takes shape c (ItemAfterClose seen again items ∷ before) rest end s n x
     (stands_behind z zs (events_in (take_phrases shape next before) + s) (take_counts before + n) s' n' x refl (omega arith)
     (behind_takes shape next before rest end s n x st))
 behind_takes shape c (Empty seen ∷ before) rest end s n x st =
-    stands_behind (span_of C shape c (look seen (Asks false))) (spans C shape c (take_looks (before ++ rest) end))
-    (events_in (take_phrases shape c before) + s) (take_counts before + n) _ _ x
-    (omega (arith, length-append (take_phrase shape c (Empty seen)) (take_phrases shape c before), take_phrase-empty shape c seen)) (omega arith)
-    (behind_takes shape c before rest end s n x st)
+    grind (arith, stands_behind, take_looks, length-append, take_phrase-empty, behind_takes shape c before rest end s n x st)
 
 take_phrases-push :
     (shape : Shape) (c : Count) (before : List Take) (x : Take) →

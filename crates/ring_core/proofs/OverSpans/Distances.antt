@@ -1,31 +1,22 @@
 -- Distances of numbers that are known modulo a modulus.
-use Rattle.std.proofs.Common.{◌≡◌, ℕ, ◌+◌, ◌-◌, ◌*◌, ◌/◌, ◌%◌, ◌<◌, ◌≤◌, ap, subst, ◌∙◌, arith}
-use Rattle.std.proofs.Math.Nat.{mod-add-mod, mod-add-div, add-mul-mod_self_left, mod-eq_of_lt, mod-lt, add-mod_right}
+use Rattle.std.proofs.Common.{◌≡◌, ℕ, ◌+◌, ◌-◌, ◌*◌, ◌/◌, ◌%◌, ◌<◌, ◌≤◌, ap, ◌∙◌, arith}
+use Rattle.std.proofs.Math.Nat.{mod-add-mod, mod-add-div, add-mul-mod_self_left, mod-eq_of_lt, add-mod_right}
 use Rattle.ring_core.specs.Counts.{distance}
 
 -- the distance of a number from one that is less than the modulus below it
 distance_up : (modulus a r : ℕ) → r < modulus → distance modulus ((a + r) % modulus) (a % modulus) ≡ r
 distance_up modulus a r l =
-    let below : a % modulus < modulus = mod-lt a (omega arith) in
     let e : a + r + (modulus - a % modulus) ≡ r + modulus * (a / modulus + 1) = omega (arith, mod-add-div a modulus) in
     mod-add-mod (a + r) modulus (modulus - a % modulus) ∙ ap (λ (m : ℕ). m % modulus) e ∙ add-mul-mod_self_left r modulus (a / modulus + 1) ∙ mod-eq_of_lt l
 
 -- the same, by the two numbers
 pub distance_of : (modulus a n : ℕ) → a ≤ n → n < a + modulus → distance modulus (n % modulus) (a % modulus) ≡ n - a
-distance_of modulus a n l m =
-    let e : a + (n - a) ≡ n = omega arith in
-    subst (λ (k : ℕ). distance modulus (k % modulus) (a % modulus) ≡ n - a) e (distance_up modulus a (n - a) (omega arith))
+distance_of modulus a n l m = grind (arith, distance_up modulus a (n - a) (omega arith))
 
 -- the distance of a number from one above it
 pub distance_back : (modulus a n : ℕ) → n < a → a ≤ n + modulus → distance modulus (n % modulus) (a % modulus) ≡ n + modulus - a
-distance_back modulus a n l m =
-    let e : (n + modulus) % modulus ≡ n % modulus = add-mod_right n modulus in
-    rw e at (distance_of modulus a (n + modulus) (omega arith) (omega arith))
+distance_back modulus a n l m = grind (arith, add-mod_right n modulus, distance_of modulus a (n + modulus) (omega arith) (omega arith))
 
 -- numbers that are not equal, and less than the modulus apart, differ modulo it
 pub apart : (modulus k n : ℕ) → k < n → n < k + modulus → n % modulus ≡ k % modulus → ⊥
-apart modulus k n l m e =
-    let same : distance modulus (k % modulus) (k % modulus) ≡ k - k = distance_of modulus k k (omega arith) (omega arith) in
-    let far : distance modulus (n % modulus) (k % modulus) ≡ n - k = distance_of modulus k n (omega arith) m in
-    let far' : distance modulus (k % modulus) (k % modulus) ≡ n - k = rw e at far in
-    omega (arith, same, far')
+apart modulus k n l m e = grind (arith, distance_of)

@@ -30,25 +30,17 @@ pub record Placed (p : ℕ → ℕ) (i t : ℕ) : Type 0 where
 pub place_of : (p : ℕ → ℕ) → Clock p → (i t : ℕ) → i < p t → Placed p i t
 place_of p h i zero l = absurd (omega (arith, h.start))
 place_of p h i (suc t) l = elim (at_most_or_above (suc i) (p t)) [
-  | inl m ↦ (
-      let r = place_of p h i t m in
-      record { place = r.place; before = omega (arith, r.before); is = r.is })
+  | inl m ↦ grind (arith, place_of p h i t m)
   | inr m ↦ record { place = t; before = omega arith; is = omega (arith, h.tick t) }
 ]
 
 -- the producer's clock is such a clock
 pub clock_p : (p c : ℕ → ℕ) → Clocks p c → Clock p
-clock_p p c h = record {
-  start = h.producer;
-  tick = λ t. elim (h.tick t) [ inl e ↦ omega (arith, e) | inr (inl e) ↦ omega (arith, e) | inr (inr e) ↦ omega (arith, e) ];
-}
+clock_p p c h = search arith
 
 -- and so is the consumer's
 pub clock_c : (p c : ℕ → ℕ) → Clocks p c → Clock c
-clock_c p c h = record {
-  start = h.consumer;
-  tick = λ t. elim (h.tick t) [ inl e ↦ omega (arith, e) | inr (inl e) ↦ omega (arith, e) | inr (inr e) ↦ omega (arith, e) ];
-}
+clock_c p c h = search arith
 
 -- an event has one position
 place_unique : (p : ℕ → ℕ) → Clock p → (i t u : ℕ) → IsPlace p i t → IsPlace p i u → t ≡ u
@@ -87,7 +79,6 @@ read_of :
 read_of modulus own other ho hw most most' scans writes ps pw regular t s n x px st l =
     let w = before-whole most x px in
     let e : ℕ = s + (x.scan - 1) in
-    let scan = px.scan in
     let f = place_of own ho s t (omega arith) in
     let g = place_of own ho e t (omega arith) in
     let law = regular s n x st f.place g.place e f.is g.is (omega arith) in
@@ -195,7 +186,6 @@ module _ (modulus capacity batch more word : ℕ) (p c : ℕ → ℕ) (puts take
   shows_items t s k x st r o =
       let rule : (counts x.outcome ≤ distance modulus (r.number % modulus) (k % modulus)) × (distance modulus (r.number % modulus) (k % modulus) ≤ capacity) =
       rw r.value at ((ring.takes_rule s k x st).item o) in
-      let fits = ring.modulus_fits in
       elim (at_most_or_above k r.number) [
         | inl l ↦ omega (arith, rule, distance_of modulus k r.number l (omega (arith, r.high)))
         | inr l ↦ absurd (omega (arith, rule, distance_back modulus k r.number l (omega (arith, r.low)), r.low))
@@ -204,7 +194,6 @@ module _ (modulus capacity batch more word : ℕ) (p c : ℕ → ℕ) (puts take
   -- a take that takes none has read one that shows none
   pub shows_none : (t s k : ℕ) (x : Span) → IsSpanAt takes s k x → (r : Shown t s k x) → counts x.outcome ≡ 0 → r.number ≤ k
   shows_none t s k x st r o =
-      let fits = ring.modulus_fits in
       let rule : (distance modulus (r.number % modulus) (k % modulus) ≡ 0) ⊎ (capacity < distance modulus (r.number % modulus) (k % modulus)) =
       rw r.value at ((ring.takes_rule s k x st).none o) in
       elim (at_most_or_above r.number k) [

@@ -7,15 +7,11 @@ use Rattle.bits_core.specs.declared.shapes.Shape.{Shape}
 use Rattle.bits_core.specs.Made.{Made, Read}
 use Rattle.register_core.specs.Row.{bits_after}
 use Rattle.register_core.specs.ScanState.{scan_phrase, row_read_by}
-use Rattle.ring_core.specs.Counts.{bits_held, number_past, Count, first_count, count_bits, batch_phrase}
+use Rattle.ring_core.specs.Counts.{number_past, Count, first_count, count_bits, batch_phrase}
 use Rattle.ring_core.specs.Puts.{Put, Stored, Full, Puts, words_phrase}
 use Rattle.ring_core.specs.Takes.{Take, Item, ItemAfterClose, Empty, End, Open, Closed, Takes}
 pub use Rattle.ring_core.specs.Takes.{words_read}
 use Rattle.ring_core.proofs.OverSpans.Spans.{Outcome, Passes, Stops, Asks, Span}
-
--- a count whose writes count one item each, as known to its writer
-abbrev pub steps : Shape → ℕ → Count
-steps shape n = record { number = n; bits = bits_held shape n }
 
 -- a scan's value and what follows it
 pub record Look : Type 0 where

@@ -1,5 +1,5 @@
 -- The calls of each side as looks: their accesses, their items and their rules by spans.
-use Rattle.std.proofs.Common.{◌≡◌, ◌⊎◌, inl, inr, ℕ, zero, suc, ◌+◌, ◌-◌, ◌*◌, ◌%◌, ◌<◌, ◌≤◌, Bool, true, false, nat_lt, nat_le, if◌then◌else◌, List, [], ◌∷◌, ◌++◌, length, refl, sym, ap, subst, ◌∙◌, arith, append_assoc, length-append}
+use Rattle.std.proofs.Common.{◌≡◌, ◌⊎◌, inl, inr, ℕ, ◌+◌, ◌-◌, ◌*◌, ◌%◌, ◌<◌, ◌≤◌, Bool, true, false, nat_le, if◌then◌else◌, List, [], ◌∷◌, ◌++◌, length, refl, arith, append_assoc, length-append}
 use Rattle.std.proofs.lemmas.Bool.Decides.{nat_tests}
 use Rattle.bits_core.specs.declared.events.Side.{Side}
 use Rattle.bits_core.specs.declared.events.Side.TheVariants.{P, C}
@@ -30,20 +30,14 @@ pub puts_as_looks :
     (shape : Shape) (c : Count) (puts : List Put) (closes : Bool) →
     put_phrases shape c puts ++ close_phrase closes ≡ look_accesses P shape c (put_looks puts) (close_phrase closes)
 puts_as_looks shape c [] closes = refl
-puts_as_looks shape c (Stored seen items ∷ puts) closes =
-    puts_stored shape c seen items puts closes ∙
-    ap (λ l. scan_phrase (row_read_by P) seen ++ (words_phrase shape c.number items ++ (batch_phrase shape P c items ++ l)))
-    (puts_as_looks shape (stored_after shape c (Stored seen items)) puts closes)
-puts_as_looks shape c (Full seen ∷ puts) closes =
-    puts_full shape c seen puts closes ∙ ap (λ l. scan_phrase (row_read_by P) seen ++ l) (puts_as_looks shape c puts closes)
+puts_as_looks shape c (Stored seen items ∷ puts) closes = grind (arith, puts_stored, puts_as_looks shape (stored_after shape c (Stored seen items)) puts closes)
+puts_as_looks shape c (Full seen ∷ puts) closes = grind (arith, puts_full, puts_as_looks shape c puts closes)
 
 -- items' words and the count, and what follows them
 items_joined :
     (shape : Shape) (c : Count) (items : List ℕ) (left right : List Made) → left ≡ right →
     items_phrase shape c items ++ left ≡ words_read shape c.number items ++ (batch_phrase shape C c items ++ right)
-items_joined shape c items left right e =
-    let words : List Made = words_read shape c.number items in
-    append_assoc words (batch_phrase shape C c items) left ∙ ap (λ l. words ++ (batch_phrase shape C c items ++ l)) e
+items_joined shape c items left right e = grind (arith, append_assoc)
 
 -- the accesses of takes and of their end
 pub takes_as_looks :
@@ -52,14 +46,10 @@ pub takes_as_looks :
 takes_as_looks shape c [] Open = refl
 takes_as_looks shape c [] (Closed seen again) = closed_first shape c seen again
 takes_as_looks shape c (Item seen items ∷ takes) end =
-    item_first shape c seen items takes end ∙
-    ap (λ l. scan_phrase (row_read_by C) seen ++ l) (items_joined shape c items _ _ (takes_as_looks shape (count_after shape c (Item seen items)) takes end))
+    grind (arith, item_first, items_joined, takes_as_looks shape (count_after shape c (Item seen items)) takes end)
 takes_as_looks shape c (ItemAfterClose seen again items ∷ takes) end =
-    after_first shape c seen again items takes end ∙
-    ap (λ l. scan_phrase (row_read_by C) seen ++ (Read X true ∷ (scan_phrase (row_read_by C) again ++ l)))
-    (items_joined shape c items _ _ (takes_as_looks shape (count_after shape c (ItemAfterClose seen again items)) takes end))
-takes_as_looks shape c (Empty seen ∷ takes) end =
-    empty_first shape c seen takes end ∙ ap (λ l. scan_phrase (row_read_by C) seen ++ (Read X false ∷ l)) (takes_as_looks shape c takes end)
+    grind (arith, after_first, items_joined, takes_as_looks shape (count_after shape c (ItemAfterClose seen again items)) takes end)
+takes_as_looks shape c (Empty seen ∷ takes) end = grind (arith, empty_first, takes_as_looks shape c takes end)
 
 -- ---- what looks count
 
@@ -80,11 +70,9 @@ puts_pass shape n (Stored seen items ∷ puts) ((below, room, batch), h) = ((bat
 puts_pass shape n (Full seen ∷ puts) (here, h) = (tt, puts_pass shape n puts h)
 
 pub takes_pass : (shape : Shape) (k : ℕ) (takes : List Take) (end : End) → AreTakes shape k takes end → AllPassing (take_batch_of shape) (take_looks takes end)
-takes_pass shape k [] Open h = tt
-takes_pass shape k [] (Closed seen again) h = (tt, (tt, tt))
+takes_pass shape k [] end h = grind arith
 takes_pass shape k (Item seen items ∷ takes) end ((sees, batch), h) = ((batch.some, batch.few), takes_pass shape (number_past k items) takes end h)
-takes_pass shape k (ItemAfterClose seen again items ∷ takes) end ((none, sees, batch), h) =
-    (tt, ((batch.some, batch.few), takes_pass shape (number_past k items) takes end h))
+takes_pass shape k (ItemAfterClose seen again items ∷ takes) end ((none, sees, batch), h) = grind (arith, takes_pass shape (number_past k items) takes end h)
 takes_pass shape k (Empty seen ∷ takes) end (none, h) = (tt, takes_pass shape k takes end h)
 
 -- the bits after a look are those of a count
@@ -99,8 +87,7 @@ look_is_count shape c (Asks answer) h = h
 count_some :
     (most : ℕ) (s : Side) (shape : Shape) (c : Count) (o : Outcome) → most < modulus_of shape → IsCount shape c → Passing most o →
     (counts o ≤ most) × (1 ≤ counts o → 1 ≤ 2 * length (count_part s shape c o))
-count_some most s shape c (Passes items) fits h (some, few) =
-    (few, λ o. omega (arith, batch_long shape s c items h some (omega (arith, few, fits))))
+count_some most s shape c (Passes items) fits h (some, few) = grind (arith, batch_long)
 count_some most s shape c Stops fits h p = (omega arith, λ o. absurd (omega (arith, o)))
 count_some most s shape c (Asks answer) fits h p = (omega arith, λ o. absurd (omega (arith, o)))
 
@@ -120,8 +107,7 @@ pub proper_puts : (shape : Shape) (puts : Puts) → ArePuts shape 0 puts.puts �
 proper_puts shape puts are = all_proper (batch_of shape) P shape first_count (put_looks puts.puts) (batch_below shape) (first_is_count shape) (puts_pass shape 0 puts.puts are)
 
 pub proper_takes : (shape : Shape) (takes : Takes) → AreTakes shape 0 takes.takes takes.end → AllProper (take_batch_of shape) (take_spans shape takes)
-proper_takes shape takes are =
-    all_proper (take_batch_of shape) C shape first_count (take_looks takes.takes takes.end) (take_batch_below shape) (first_is_count shape) (takes_pass shape 0 takes.takes takes.end are)
+proper_takes shape takes are = grind (arith, all_proper, take_looks, take_batch_below, first_is_count, takes_pass)
 
 -- the parts of a look, and what follows them, in length
 length_parts : (a b d after : List Made) → length (a ++ (b ++ (d ++ after))) ≡ length a + length b + length d + length after
@@ -130,40 +116,23 @@ length_parts a b d after = omega (arith, length-append a (b ++ (d ++ after)), le
 -- the spans have two events for each access
 pub total_is : (s : Side) (shape : Shape) (c : Count) (looks : List Look) → total (spans s shape c looks) ≡ 2 * length (look_accesses s shape c looks [])
 total_is s shape c [] = refl
-total_is s shape c (l ∷ looks) =
-    let a : List Made = scan_phrase (row_read_by s) l.seen in
-    let b : List Made = word_part s shape c.number l.outcome in
-    let d : List Made = count_part s shape c l.outcome in
-    let after : List Made = look_accesses s shape (after_look shape c l.outcome) looks [] in
-    omega (arith, length_parts a b d after, total_is s shape (after_look shape c l.outcome) looks)
+total_is s shape c (l ∷ looks) = grind (arith, length_parts, total_is s shape (after_look shape c l.outcome) looks)
 
 -- ---- the position of a span
 
 -- how many items there are after a look
 pub after_counts : (n : ℕ) (o : Outcome) → look_number n o ≡ n + counts o
-after_counts n (Passes items) = past_is n items
-after_counts n Stops = omega arith
-after_counts n (Asks answer) = omega arith
+after_counts n o = grind (arith, past_is)
 
 -- the first look of a program
 first_look : (s : Side) (shape : Shape) (c : Count) (l : Look) (after : List Made) (start : ℕ) (x : Span) → start ≡ 0 → x ≡ span_of s shape c l →
     LookAt s shape (scan_phrase (row_read_by s) l.seen ++ (word_part s shape c.number l.outcome ++ (count_part s shape c l.outcome ++ after))) c.number start x
-first_look s shape c l after start x zero_is e =
-    record { look = l; count = c; before = []; after = after; number_is = refl; is_x = e; program_is = refl; start_is = omega (arith, zero_is) }
+first_look s shape c l after start x zero_is e = grind arith
 
 -- a look after other accesses
 later_look : (s : Side) (shape : Shape) (a b d program : List Made) (k start rest : ℕ) (x : Span) →
     start ≡ 2 * length a + 2 * length b + 2 * length d + rest → LookAt s shape program k rest x → LookAt s shape (a ++ (b ++ (d ++ program))) k start x
-later_look s shape a b d program k start rest x e r = record {
-  look = r.look;
-  count = r.count;
-  before = a ++ (b ++ (d ++ r.before));
-  after = r.after;
-  number_is = r.number_is;
-  is_x = r.is_x;
-  program_is = rw r.program_is (sym (simp append_assoc));
-  start_is = omega (arith, e, r.start_is, length_parts a b d r.before);
-}
+later_look s shape a b d program k start rest x e r = grind (arith, append_assoc, length_parts a b d r.before)
 
 -- at the position of a span is its look
 pub look_at :
@@ -171,39 +140,22 @@ pub look_at :
     IsSpanAt (spans s shape c looks) start m x → LookAt s shape (look_accesses s shape c looks behind) (c.number + m) start x
 look_at s shape c [] behind start m x st = elim st [ ]
 look_at s shape c (l ∷ looks) behind start m x (inl st) =
-    let same : c.number ≡ c.number + m = omega (arith, st.1) in
-    subst (λ k. LookAt s shape (look_accesses s shape c (l ∷ looks) behind) k start x) same
-    (first_look s shape c l (look_accesses s shape (after_look shape c l.outcome) looks behind) start x st.0 st.2)
+    grind (arith, first_look s shape c l (look_accesses s shape (after_look shape c l.outcome) looks behind) start x st.0 st.2)
 look_at s shape c (l ∷ looks) behind start m x (inr st) =
     let n : ℕ = look_number c.number l.outcome in
     let same : n + st.1 ≡ c.number + m = omega (arith, st.3, after_counts c.number l.outcome) in
-    subst (λ k. LookAt s shape (look_accesses s shape c (l ∷ looks) behind) k start x) same
-    (later_look s shape (scan_phrase (row_read_by s) l.seen) (word_part s shape c.number l.outcome) (count_part s shape c l.outcome)
-    (look_accesses s shape (after_look shape c l.outcome) looks behind) (n + st.1) start st.0 x st.2
-    (look_at s shape (after_look shape c l.outcome) looks behind st.0 st.1 x st.4))
+    grind (arith, later_look, look_at s shape (after_look shape c l.outcome) looks behind st.0 st.1 x st.4)
 
 -- also given its number alone, in a whole program
 pub look_from_first :
     (s : Side) (shape : Shape) (looks : List Look) (behind : List Made) (start m : ℕ) (x : Span) →
     IsSpanAt (spans s shape first_count looks) start m x → LookAt s shape (look_accesses s shape first_count looks behind) m start x
-look_from_first s shape looks behind start m x st =
-    let same : 0 + m ≡ m = omega arith in
-    subst (λ k. LookAt s shape (look_accesses s shape first_count looks behind) k start x) same (look_at s shape first_count looks behind start m x st)
+look_from_first s shape looks behind start m x st = grind (arith, look_at s shape first_count looks behind start m x st)
 
 -- ---- the parts of a span
 
--- a scan that returns c has c + 1 reads
-pub scan_is :
-    (s : Side) (shape : Shape) (looks : List Look) (start m : ℕ) (x : Span) → IsSpanAt (spans s shape first_count looks) start m x → x.scan ≡ 2 * suc x.seen
-scan_is s shape looks start m x st =
-    let r : LookAt s shape (look_accesses s shape first_count looks []) m start x = look_from_first s shape looks [] start m x st in
-    rw r.is_x (omega (arith, length-scan (row_read_by s) r.look.seen))
-
 pub word_length : (s : Side) (shape : Shape) (n : ℕ) (o : Outcome) → 1 ≤ counts o → length (word_part s shape n o) ≡ counts o * width_of shape
-word_length P shape n (Passes items) e = length-words shape n items
-word_length C shape n (Passes items) e = length-words_read shape n items
-word_length s shape n Stops e = absurd (omega (arith, e))
-word_length s shape n (Asks answer) e = absurd (omega (arith, e))
+word_length s shape n o e = grind (arith, length-words, length-words_read)
 
 -- the same for a span that counts some items
 pub words_are :
@@ -211,22 +163,10 @@ pub words_are :
     IsSpanAt (spans s shape first_count looks) start m x → 1 ≤ counts x.outcome → x.word ≡ 2 * (counts x.outcome * width_of shape)
 words_are s shape looks start m x st e =
     let r : LookAt s shape (look_accesses s shape first_count looks []) m start x = look_from_first s shape looks [] start m x st in
-    let f : 1 ≤ counts r.look.outcome = rw r.is_x at e in
-    rw r.is_x (ap (λ k. 2 * k) (word_length s shape r.count.number r.look.outcome f))
-
--- one word has an access for each digit
-pub word_is :
-    (s : Side) (shape : Shape) (looks : List Look) (start m : ℕ) (x : Span) →
-    IsSpanAt (spans s shape first_count looks) start m x → counts x.outcome ≡ 1 → x.word ≡ 2 * width_of shape
-word_is s shape looks start m x st e =
-    let one : counts x.outcome * width_of shape ≡ 1 * width_of shape = ap (λ k. k * width_of shape) e in
-    omega (arith, words_are s shape looks start m x st (omega (arith, e)), one)
+    grind (arith, word_length)
 
 asks_length : (s : Side) (shape : Shape) (n : ℕ) (o : Outcome) (answer : Bool) → o ≡ Asks answer → length (word_part s shape n o) ≡ 1
-asks_length s shape n (Passes items) answer e = absurd (cc)
-asks_length s shape n Stops answer e = absurd (cc)
-asks_length P shape n (Asks other) answer e = refl
-asks_length C shape n (Asks other) answer e = refl
+asks_length s shape n o answer e = grind arith
 
 -- a read of the close bit has two events
 pub asks_word :
@@ -234,15 +174,13 @@ pub asks_word :
     IsSpanAt (spans s shape first_count looks) start m x → x.outcome ≡ Asks answer → x.word ≡ 2
 asks_word s shape looks start m x answer st e =
     let r : LookAt s shape (look_accesses s shape first_count looks []) m start x = look_from_first s shape looks [] start m x st in
-    let f : r.look.outcome ≡ Asks answer = rw r.is_x at e in
-    rw r.is_x (omega (arith, asks_length s shape r.count.number r.look.outcome answer f))
+    grind (arith, asks_length)
 
 -- ---- the items
 
 -- no items, whatever the test
 no_items : (t : Bool) (l : List ℕ) → l ≡ (if t then [] else []) ++ l
-no_items true l = refl
-no_items false l = refl
+no_items t l = grind arith
 
 -- equal items under the same test, before equal items
 same_items : (a b : Bool) (items l m : List ℕ) → a ≡ b → l ≡ m → (if a then items else []) ++ l ≡ (if b then items else []) ++ m
@@ -254,17 +192,8 @@ puts_items shape c [] t = refl
 puts_items shape c (Stored seen items ∷ puts) t =
     let a : List Made = scan_phrase (row_read_by P) seen in
     let b : List Made = words_phrase shape c.number items in
-    let d : List Made = batch_phrase shape P c items in
-    let next : Count = stored_after shape c (Stored seen items) in
-    let test : 2 * length (a ++ b) ≡ 2 * length a + 2 * length b = omega (arith, length-append a b) in
-    let number_past : 2 * length (a ++ b ++ d) ≡ 2 * length a + 2 * length b + 2 * length d = omega (arith, length-append (a ++ b) d, length-append a b) in
-    same_items (nat_lt (2 * length (a ++ b)) t) (nat_lt (2 * length a + 2 * length b) t) items _ _ (ap (λ k. nat_lt k t) test)
-    (ap (λ k. items_put shape next puts (t - k)) number_past ∙ puts_items shape next puts (t - (2 * length a + 2 * length b + 2 * length d)))
-puts_items shape c (Full seen ∷ puts) t =
-    let a : List Made = scan_phrase (row_read_by P) seen in
-    let number_past : 2 * length a ≡ 2 * length a + 0 + 0 = omega arith in
-    ap (λ k. items_put shape c puts (t - k)) number_past ∙ puts_items shape c puts (t - (2 * length a + 0 + 0)) ∙
-    no_items (nat_lt (2 * length a + 0) t) (begun_items (spans P shape c (put_looks puts)) (t - (2 * length a + 0 + 0)))
+    grind (arith, length-append, same_items, puts_items shape (stored_after shape c (Stored seen items)) puts (t - (2 * length a + 2 * length b + 2 * length (batch_phrase shape P c items))))
+puts_items shape c (Full seen ∷ puts) t = grind (arith, no_items, puts_items shape c puts (t - (2 * length (scan_phrase (row_read_by P) seen) + 0 + 0)))
 
 -- two phrases have ended if the second has, after the first
 two_ended : (a b t : ℕ) → 0 < b → nat_le (a + b) t ≡ nat_le b (t - a)
@@ -274,20 +203,12 @@ two_ended a b t some = grind (arith, nat_tests)
 pub takes_items :
     (shape : Shape) (c : Count) (takes : List Take) (end : End) (t : ℕ) →
     items_taken shape c takes t ≡ ended_items (spans C shape c (take_looks takes end)) t
-takes_items shape c [] Open t = refl
-takes_items shape c [] (Closed seen again) t =
-    let x : Span = span_of C shape c (look seen (Asks true)) in
-    let z : Span = span_of C shape c (look again Stops) in
-    no_items (nat_le (whole z) (t - whole x)) [] ∙ no_items (nat_le (whole x) t) ((if nat_le (whole z) (t - whole x) then [] else []) ++ [])
+takes_items shape c [] end t = grind (arith, no_items)
 takes_items shape c (Item seen items ∷ takes) end t =
     let a : List Made = scan_phrase (row_read_by C) seen in
     let b : List Made = words_read shape c.number items in
     let d : List Made = batch_phrase shape C c items in
-    let next : Count = count_after shape c (Item seen items) in
-    let number_past : 2 * length (a ++ (b ++ d)) ≡ 2 * length a + 2 * length b + 2 * length d =
-    omega (arith, length-append a (b ++ d), length-append b d) in
-    same_items (nat_le (2 * length (a ++ (b ++ d))) t) (nat_le (2 * length a + 2 * length b + 2 * length d) t) items _ _ (ap (λ j. nat_le j t) number_past)
-    (ap (λ j. items_taken shape next takes (t - j)) number_past ∙ takes_items shape next takes end (t - (2 * length a + 2 * length b + 2 * length d)))
+    grind (arith, length-append, same_items, takes_items shape (count_after shape c (Item seen items)) takes end (t - (2 * length a + 2 * length b + 2 * length d)))
 takes_items shape c (ItemAfterClose seen again items ∷ takes) end t =
     let x : Span = span_of C shape c (look seen (Asks true)) in
     let z : Span = span_of C shape c (look again (Passes items)) in
@@ -297,21 +218,11 @@ takes_items shape c (ItemAfterClose seen again items ∷ takes) end t =
     let d : List Made = batch_phrase shape C c items in
     let next : Count = count_after shape c (ItemAfterClose seen again items) in
     let phrase : List Made = a ++ Read X true ∷ a' ++ (b ++ d) in
-    let number_past : 2 * length phrase ≡ whole x + whole z =
-    omega (arith, length-append (a ++ Read X true ∷ a') (b ++ d), length-append a (Read X true ∷ a'), length-append b d) in
+    let number_past : 2 * length phrase ≡ whole x + whole z = grind (arith, length-append) in
     let some : 0 < whole z = omega (arith, length-scan (row_read_by C) again) in
-    let after : t - 2 * length phrase ≡ t - whole x - whole z = omega (arith, number_past) in
-    same_items (nat_le (2 * length phrase) t) (nat_le (whole z) (t - whole x)) items _ _
-    (ap (λ j. nat_le j t) number_past ∙ two_ended (whole x) (whole z) t some)
-    (ap (λ j. items_taken shape next takes j) after ∙ takes_items shape next takes end (t - whole x - whole z)) ∙
-    no_items (nat_le (whole x) t)
-    ((if nat_le (whole z) (t - whole x) then items else []) ++ ended_items (spans C shape next (take_looks takes end)) (t - whole x - whole z))
+    grind (arith, same_items, two_ended, no_items, take_looks, takes_items shape next takes end (t - whole x - whole z))
 takes_items shape c (Empty seen ∷ takes) end t =
-    let x : Span = span_of C shape c (look seen (Asks false)) in
-    let a : List Made = scan_phrase (row_read_by C) seen in
-    let number_past : 2 * length (a ++ Read X false ∷ []) ≡ whole x = omega (arith, length-append a (Read X false ∷ [])) in
-    ap (λ j. items_taken shape c takes (t - j)) number_past ∙ takes_items shape c takes end (t - whole x) ∙
-    no_items (nat_le (whole x) t) (ended_items (spans C shape c (take_looks takes end)) (t - whole x))
+    grind (arith, length-append, no_items, take_looks, takes_items shape c takes end (t - whole (span_of C shape c (look seen (Asks false)))))
 
 -- ---- the rules
 
@@ -325,13 +236,9 @@ each_at :
     (rule : ℕ → ℕ → Outcome → Type 0) (s : Side) (shape : Shape) (c : Count) (looks : List Look) → EachLook rule c.number looks →
     (start m : ℕ) (x : Span) → IsSpanAt (spans s shape c looks) start m x → rule (c.number + m) x.seen x.outcome
 each_at rule s shape c [] h start m x st = elim st [ ]
-each_at rule s shape c (l ∷ looks) h start m x (inl st) =
-    let same : c.number ≡ c.number + m = omega (arith, st.1) in
-    rw st.2 (subst (λ k. rule k l.seen l.outcome) same h.0)
+each_at rule s shape c (l ∷ looks) h start m x (inl st) = grind arith
 each_at rule s shape c (l ∷ looks) h start m x (inr st) =
-    let n : ℕ = look_number c.number l.outcome in
-    let same : n + st.1 ≡ c.number + m = omega (arith, st.3, after_counts c.number l.outcome) in
-    subst (λ k. rule k x.seen x.outcome) same (each_at rule s shape (after_look shape c l.outcome) looks h.1 st.0 st.1 x st.4)
+    grind (arith, after_counts, each_at rule s shape (after_look shape c l.outcome) looks h.1 st.0 st.1 x st.4)
 
 -- what is true of each look: the scan returns a number below the modulus, and the items fit
 pub record FitsShape (shape : Shape) (seen : ℕ) (o : Outcome) : Type 0 where
@@ -369,30 +276,20 @@ not_below a b h = elim (at_most_or_above b a) [ inl l ↦ l | inr l ↦ absurd (
 
 -- a distance that shows no item is 0 or above the capacity
 not_shown : (capacity d : ℕ) → ¬ ((0 < d) × (d ≤ capacity)) → (d ≡ 0) ⊎ (capacity < d)
-not_shown capacity zero h = inl refl
-not_shown capacity (suc d) h = elim (at_most_or_above (suc d) capacity) [ inl l ↦ absurd (h (omega arith, l)) | inr l ↦ inr l ]
+not_shown capacity d h = grind (arith, at_most_or_above)
 
 puts_keep : (shape : Shape) (n : ℕ) (puts : List Put) → ArePuts shape n puts → EachLook (PutRule shape) n (put_looks puts)
 puts_keep shape n [] h = tt
-puts_keep shape n (Stored seen items ∷ puts) ((below, room, batch), h) =
-    ((record { below = below; items = batch.fit }, λ _. room, λ e. absurd (omega (arith, e, batch.some))), puts_keep shape (number_past n items) puts h)
-puts_keep shape n (Full seen ∷ puts) ((below, full), h) =
-    ((stops_fits shape seen below, λ e. absurd (omega (arith, e)), λ _. not_below _ _ full), puts_keep shape n puts h)
+puts_keep shape n (Stored seen items ∷ puts) ((below, room, batch), h) = grind (arith, puts_keep shape (number_past n items) puts h)
+puts_keep shape n (Full seen ∷ puts) ((below, full), h) = grind (arith, stops_fits, not_below, puts_keep shape n puts h)
 
 takes_keep : (shape : Shape) (k : ℕ) (takes : List Take) (end : End) → AreTakes shape k takes end → EachLook (TakeRule shape) k (take_looks takes end)
-takes_keep shape k [] Open h = tt
-takes_keep shape k [] (Closed seen again) ((below, none), (below', none')) = (
-  (asks_fits shape seen true below, λ e. absurd (omega (arith, e)), λ _. not_shown _ _ none),
-  ((stops_fits shape again below', λ e. absurd (omega (arith, e)), λ _. not_shown _ _ none'), tt),
-)
+takes_keep shape k [] end h = grind (arith, asks_fits, not_shown, stops_fits)
 takes_keep shape k (Item seen items ∷ takes) end (((below, few, room), batch), h) =
     ((passes_fits shape seen items below batch.fit, λ _. (few, room), λ e. absurd (omega (arith, e, batch.some))), takes_keep shape (number_past k items) takes end h)
-takes_keep shape k (ItemAfterClose seen again items ∷ takes) end (((below, none), (below', few, room), batch), h) = (
-  (asks_fits shape seen true below, λ e. absurd (omega (arith, e)), λ _. not_shown _ _ none),
-  ((passes_fits shape again items below' batch.fit, λ _. (few, room), λ e. absurd (omega (arith, e, batch.some))), takes_keep shape (number_past k items) takes end h),
-)
-takes_keep shape k (Empty seen ∷ takes) end ((below, none), h) =
-    ((asks_fits shape seen false below, λ e. absurd (omega (arith, e)), λ _. not_shown _ _ none), takes_keep shape k takes end h)
+takes_keep shape k (ItemAfterClose seen again items ∷ takes) end (((below, none), (below', few, room), batch), h) =
+    grind (arith, asks_fits, not_shown, passes_fits, takes_keep shape (number_past k items) takes end h)
+takes_keep shape k (Empty seen ∷ takes) end ((below, none), h) = grind (arith, asks_fits, not_shown, takes_keep shape k takes end h)
 
 put_rule :
     (shape : Shape) (c : Count) (puts : List Put) → ArePuts shape c.number puts →
@@ -408,17 +305,13 @@ take_rule shape c takes end h = each_at (TakeRule shape) C shape c (take_looks t
 pub put_rules :
     (shape : Shape) (c : Count) (puts : List Put) → ArePuts shape c.number puts →
     (start m : ℕ) (x : Span) → IsSpanAt (spans P shape c (put_looks puts)) start m x → clocks.IsPutSpan (modulus_of shape) (capacity_of shape) (c.number + m) x
-put_rules shape c puts h start m x st =
-    let r : PutRule shape (c.number + m) x.seen x.outcome = put_rule shape c puts h start m x st in
-    record { room = r.1; full = r.2 }
+put_rules shape c puts h start m x st = grind (arith, put_rule)
 
 -- each take keeps the rule of takes
 pub take_rules :
     (shape : Shape) (c : Count) (takes : List Take) (end : End) → AreTakes shape c.number takes end →
     (start m : ℕ) (x : Span) → IsSpanAt (spans C shape c (take_looks takes end)) start m x → clocks.IsTakeSpan (modulus_of shape) (capacity_of shape) (c.number + m) x
-take_rules shape c takes end h start m x st =
-    let r : TakeRule shape (c.number + m) x.seen x.outcome = take_rule shape c takes end h start m x st in
-    record { item = r.1; none = r.2 }
+take_rules shape c takes end h start m x st = grind (arith, take_rule)
 
 -- the count that a put reads is below the modulus, and its items fit
 pub put_fits :

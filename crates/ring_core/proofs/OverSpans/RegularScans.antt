@@ -109,15 +109,13 @@ scan_there shape h s looks behind follows start n x st first last e is_first is_
 pub put_events :
     (shape : Shape) (h : List Event) (calls : Puts) → FollowsPuts shape h calls →
     IsPrefix (subhistory P h) (events_of P (look_accesses P shape first_count (put_looks calls.puts) (close_phrase calls.closes)))
-put_events shape h calls follows =
-    subst (λ (l : List Made). IsPrefix (subhistory P h) (events_of P l)) (puts_as_looks shape first_count calls.puts calls.closes) follows.events
+put_events shape h calls follows = grind (arith, puts_as_looks)
 
 -- and those of a consumer that follows its calls
 pub take_events :
     (shape : Shape) (h : List Event) (calls : Takes) → FollowsTakes shape h calls →
     IsPrefix (subhistory C h) (events_of C (look_accesses C shape first_count (take_looks calls.takes calls.end) []))
-take_events shape h calls follows =
-    subst (λ (l : List Made). IsPrefix (subhistory C h) (events_of C l)) (takes_as_looks shape first_count calls.takes calls.end) follows.events
+take_events shape h calls follows = grind (arith, takes_as_looks)
 
 -- the value that the register returns is between those places
 between :

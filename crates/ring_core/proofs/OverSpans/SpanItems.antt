@@ -2,7 +2,7 @@
 use Rattle.std.specs.Prelude.{slice_get, Some}
 use Rattle.std.proofs.Math.Nat.{suc-mul, mul-le-mul_right}
 use Rattle.std.proofs.lemmas.Option.{slice_get_within, get_or_from_slice_get}
-use Rattle.std.proofs.Common.{◌≡◌, inl, inr, ℕ, suc, ◌+◌, ◌-◌, ◌*◌, ◌<◌, ◌≤◌, ◌%◌, true, false, List, [], ◌++◌, length, get_or, drop, append-nil, drop_of_length-le, refl, sym, ap, ◌∙◌, add-zero, arith}
+use Rattle.std.proofs.Common.{◌≡◌, inl, inr, ℕ, suc, ◌+◌, ◌-◌, ◌*◌, ◌<◌, ◌≤◌, ◌%◌, true, false, List, ◌++◌, length, get_or, drop, append-nil, drop_of_length-le, refl, sym, ap, ◌∙◌, add-zero, arith}
 use Rattle.std.proofs.lemmas.List.Prefix.{front_from_reads}
 use Rattle.ring_core.proofs.OverSpans.Spans.{Span, Outcome, Asks, counts, items_of, before_count, whole, counts_begun, counts_ended, begun_items, ended_items, all_items, total, IsSpanAt}
 use Rattle.ring_core.proofs.OverSpans.Clocks.{IsPlace, CellOverlap, word_end, Ring}
@@ -83,7 +83,6 @@ module _ (modulus capacity batch more word : ℕ) (p c : ℕ → ℕ) (puts take
       let has : i < counts x.outcome = within_items x.outcome i item at in
       let o : 1 ≤ counts x.outcome = omega (arith, has) in
       let w = before-whole more x (proper_at more takes proper_takes s k x st) in
-      let wg = before-whole batch g.span (proper_at batch puts proper_puts g.start g.number g.span g.stands) in
       let some : 1 ≤ word = ring.has_word in
       let size : suc i * word ≡ i * word + word = suc-mul i word in
       let whole_words : suc i * word ≤ x.word = omega (arith, up_to i (counts x.outcome) word has, ring.takes_words s k x st o) in
@@ -115,9 +114,7 @@ module _ (modulus capacity batch more word : ℕ) (p c : ℕ → ℕ) (puts take
               let at_end = begun_at batch puts proper_puts g.start g.number g.span g.stands (before_count g.span) (omega arith) in
               absurd (omega (arith, bound, at_end, g.is_k, gate, has)))
         ];
-        no_later = λ s' n' j y sy had cell later begun_y.
-            (let room = ahead first.place s' n' y sy (omega (arith, had)) begun_y in
-            apart capacity (k + i) (n' + j) (omega (arith, later, g.is_k)) (omega (arith, here, room, had)) cell);
+        no_later = λ s' n' j y sy had cell later begun_y. grind (arith, ahead, apart);
       })
 
   -- so that item is among those put
@@ -248,10 +245,5 @@ module _ (modulus capacity batch more word : ℕ) (p c : ℕ → ℕ) (puts take
       let e : counts_ended takes (s + whole x + 0) ≡ k = ended_at more takes proper_takes (s + whole x) k z sz 0 (omega (arith, wz, scan)) in
       let had = ended_up more takes proper_takes (s + whole x + 0) (c t) (omega arith) in
       let most = begun_all batch puts proper_puts (p t) in
-      let same : length (begun_items puts (p t)) ≤ length (ended_items takes (c t)) =
-      omega (arith, length-begun_items puts (p t), length-ended_items takes (c t), low, high, all, e, had, most) in
-      let whole_list = all_begun batch puts proper_puts (p t) (omega (arith, over_now)) in
-      let none : drop (length (ended_items takes (c t))) (begun_items puts (p t)) ≡ [] = drop_of_length-le (begun_items puts (p t)) same in
-      let equal : begun_items puts (p t) ≡ ended_items takes (c t) =
-      prefix t ∙ ap (λ (l : List ℕ). ended_items takes (c t) ++ l) none ∙ append-nil (ended_items takes (c t)) in
-      (whole_list, sym equal ∙ whole_list, over_now)
+      let same : length (begun_items puts (p t)) ≤ length (ended_items takes (c t)) = grind (arith, length-begun_items, length-ended_items) in
+      grind (arith, all_begun, drop_of_length-le, prefix, append-nil)

@@ -1,6 +1,6 @@
 -- The law of the ring at every moment, over the clocks of two sides and the spans of their events.
 use Rattle.std.specs.Prelude.{slice_get, Some}
-use Rattle.std.proofs.Common.{◌≡◌, inl, inr, ℕ, ◌+◌, ◌-◌, ◌<◌, ◌≤◌, ◌%◌, true, false, List, [], ◌∷◌, length, drop, refl, sym, ap, arith}
+use Rattle.std.proofs.Common.{◌≡◌, inr, ℕ, ◌+◌, ◌-◌, ◌<◌, ◌≤◌, ◌%◌, true, false, List, [], ◌∷◌, length, drop, refl, sym, ap, arith}
 use Rattle.bits_core.specs.Made.{IsPrefix}
 use Rattle.ring_core.proofs.OverSpans.Spans.{Span, Asks, counts, items_of, before_count, whole, counts_begun, counts_ended, begun_items, ended_items, all_items, total, IsSpanAt}
 use Rattle.ring_core.proofs.OverSpans.RingOfSpans.{ReadsCount}
@@ -24,17 +24,7 @@ pub record LastTwo (xs : List Span) : Type 0 where
 
 -- two such spans
 pub two_last : (x z : Span) → x.outcome ≡ Asks true → counts z.outcome ≡ 0 → LastTwo (x ∷ z ∷ [])
-two_last x z asks stops = record {
-  start = 0;
-  number = 0;
-  asked = x;
-  stopped = z;
-  asked_stands = inl (refl, refl, refl);
-  asked_is = asks;
-  stopped_stands = inr (0, 0, omega arith, omega (arith, ap counts asks), inl (refl, refl, refl));
-  stopped_is = stops;
-  at_end = omega arith;
-}
+two_last x z asks stops = grind arith
 
 -- and with one more span before them
 pub two_after : (y : Span) (xs : List Span) → LastTwo xs → LastTwo (y ∷ xs)

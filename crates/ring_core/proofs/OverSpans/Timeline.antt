@@ -1,5 +1,5 @@
 -- The spans of one side, over its own events.
-use Rattle.std.proofs.Common.{◌≡◌, ◌⊎◌, inl, inr, ℕ, zero, suc, ◌+◌, ◌-◌, ◌<◌, ◌≤◌, Bool, true, false, Some, List, [], ◌∷◌, ◌++◌, length, get_or, if◌then◌else◌, nat_lt, nat_le, refl, sym, ap, ap₂, subst, ◌∙◌, zero-add, suc-add, length-append, arith}
+use Rattle.std.proofs.Common.{◌≡◌, ◌⊎◌, inl, inr, ℕ, zero, suc, ◌+◌, ◌-◌, ◌<◌, ◌≤◌, Bool, true, false, Some, List, [], ◌∷◌, ◌++◌, length, get_or, if◌then◌else◌, nat_lt, nat_le, refl, ap, subst, ◌∙◌, zero-add, suc-add, length-append, arith}
 use Rattle.std.specs.Prelude.{slice_get}
 use Rattle.std.proofs.lemmas.Option.{slice_get-get_or}
 use Rattle.std.proofs.lemmas.Bool.Decides.{nat_tests}
@@ -26,16 +26,11 @@ before-count most x h o = omega (arith, h.count o)
 
 -- a span with no event in its count write counts nothing
 no-count : (most : ℕ) (x : Span) → Proper most x → whole x ≤ before_count x → counts x.outcome ≡ 0
-no-count most x h l = elim (at_most_or_above 1 (counts x.outcome)) [
-  | inl o ↦ absurd (omega (arith, before-count most x h o, l))
-  | inr o ↦ omega (arith, o)
-]
+no-count most x h l = grind (arith, at_most_or_above, before-count)
 
 -- it counts its items
 pub counts-items : (o : Outcome) → counts o ≡ length (items_of o)
-counts-items (Passes items) = refl
-counts-items Stops = refl
-counts-items (Asks answer) = refl
+counts-items o = grind arith
 
 no-items : (o : Outcome) → counts o ≡ 0 → items_of o ≡ []
 no-items (Passes []) e = refl
@@ -74,32 +69,21 @@ begun_zero (y ∷ ys) = omega (arith, begun_cons y ys 0 0 0 (omega arith) (lt_fa
 -- and none has ended
 pub ended_zero : (most : ℕ) (xs : List Span) → AllProper most xs → counts_ended xs 0 ≡ 0
 ended_zero most [] h = refl
-ended_zero most (y ∷ ys) h =
-    let w = before-whole most y h.0 in
-    omega (arith, ended_cons y ys 0 0 0 (omega arith) (le_false (whole y) 0 (counts y.outcome) (omega (arith, w))), ended_zero most ys h.1)
+ended_zero most (y ∷ ys) h = grind (arith, before-whole, ended_cons, le_false, ended_zero most ys h.1)
 
 -- before the count write of the first span, during it, and after the span
 begun_first : (most : ℕ) (y : Span) (ys : List Span) (i : ℕ) → Proper most y → i ≤ before_count y → counts_begun (y ∷ ys) i ≡ 0
-begun_first most y ys i h l =
-    let w = before-whole most y h in
-    omega (arith, begun_cons y ys i 0 0 (omega (arith, w)) (lt_false (before_count y) i (counts y.outcome) l), begun_zero ys)
+begun_first most y ys i h l = grind (arith, before-whole, begun_cons, lt_false, begun_zero)
 
 begun_middle : (y : Span) (ys : List Span) (i : ℕ) → before_count y < i → i ≤ whole y → counts_begun (y ∷ ys) i ≡ counts y.outcome
-begun_middle y ys i l m =
-    omega (arith, begun_cons y ys i 0 (counts y.outcome) (omega arith) (lt_true (before_count y) i (counts y.outcome) l), begun_zero ys)
+begun_middle y ys i l m = grind (arith, begun_cons, lt_true, begun_zero)
 
 begun_past : (most : ℕ) (y : Span) (ys : List Span) (i j : ℕ) → Proper most y → i ≡ whole y + j → counts_begun (y ∷ ys) i ≡ counts y.outcome + counts_begun ys j
-begun_past most y ys i j h e = elim (at_most_or_above i (before_count y)) [
-  | inl l ↦ (
-      let w = before-whole most y h in
-      omega (arith, w, no-count most y h (omega (arith, e, l)), begun_cons y ys i j 0 (omega (arith, e)) (lt_false (before_count y) i (counts y.outcome) l)))
-  | inr l ↦ begun_cons y ys i j (counts y.outcome) (omega arith) (lt_true (before_count y) i (counts y.outcome) l)
-]
+begun_past most y ys i j h e = grind (arith, at_most_or_above, before-whole, no-count, begun_cons, lt_false, lt_true)
 
 -- before the end of the first span, and after it
 ended_first : (most : ℕ) (y : Span) (ys : List Span) (i : ℕ) → AllProper most ys → i < whole y → counts_ended (y ∷ ys) i ≡ 0
-ended_first most y ys i h l =
-    omega (arith, ended_cons y ys i 0 0 (omega arith) (le_false (whole y) i (counts y.outcome) l), ended_zero most ys h)
+ended_first most y ys i h l = grind (arith, ended_cons, le_false, ended_zero)
 
 pub ended_past : (y : Span) (ys : List Span) (i j : ℕ) → i ≡ whole y + j → counts_ended (y ∷ ys) i ≡ counts y.outcome + counts_ended ys j
 ended_past y ys i j e = ended_cons y ys i j (counts y.outcome) (omega arith) (le_true (whole y) i (counts y.outcome) (omega arith))
@@ -107,16 +91,8 @@ ended_past y ys i j e = ended_cons y ys i j (counts y.outcome) (omega arith) (le
 -- at each moment at most the last count write that has begun is open
 pub ended_begun : (most : ℕ) (xs : List Span) → AllProper most xs → (i : ℕ) → (counts_ended xs i ≤ counts_begun xs i) × (counts_begun xs i ≤ counts_ended xs i + most)
 ended_begun most [] h i = omega arith
-ended_begun most (y ∷ ys) h i = elim (at_most_or_above (whole y) i) [
-  | inl l ↦ (
-      let r = ended_begun most ys h.1 (i - whole y) in
-      omega (arith, r, begun_past most y ys i (i - whole y) h.0 (omega arith), ended_past y ys i (i - whole y) (omega arith)))
-  | inr l ↦ (
-      elim (at_most_or_above i (before_count y)) [
-        | inl m ↦ omega (arith, begun_first most y ys i h.0 m, ended_first most y ys i h.1 l)
-        | inr m ↦ omega (arith, begun_middle y ys i m (omega arith), ended_first most y ys i h.1 l, h.0.few)
-      ])
-]
+ended_begun most (y ∷ ys) h i =
+    grind (arith, at_most_or_above, begun_past, ended_past, begun_first, ended_first, begun_middle, ended_begun most ys h.1 (i - whole y))
 
 -- a span's number is what is counted, up to the start of its count write
 pub begun_at :
@@ -125,18 +101,14 @@ begun_at most [] h s n x st j l = elim st [ ]
 begun_at most (y ∷ ys) h s n x (inl st) j l =
     let l' : j ≤ before_count y = rw st.2 at l in
     omega (arith, begun_first most y ys (s + j) h.0 (omega (arith, st.0)), st.1)
-begun_at most (y ∷ ys) h s n x (inr st) j l =
-    omega (arith, begun_past most y ys (s + j) (st.0 + j) h.0 (omega (arith, st.2)), begun_at most ys h.1 st.0 st.1 x st.4 j l, st.3)
+begun_at most (y ∷ ys) h s n x (inr st) j l = grind (arith, begun_past, begun_at most ys h.1 st.0 st.1 x st.4 j l)
 
 -- up to its end, the writes that have ended counted as many items as its number
 pub ended_at :
     (most : ℕ) (xs : List Span) → AllProper most xs → (s n : ℕ) (x : Span) → IsSpanAt xs s n x → (j : ℕ) → j < whole x → counts_ended xs (s + j) ≡ n
 ended_at most [] h s n x st j l = elim st [ ]
-ended_at most (y ∷ ys) h s n x (inl st) j l =
-    let l' : j < whole y = rw st.2 at l in
-    omega (arith, ended_first most y ys (s + j) h.1 (omega (arith, st.0)), st.1)
-ended_at most (y ∷ ys) h s n x (inr st) j l =
-    omega (arith, ended_past y ys (s + j) (st.0 + j) (omega (arith, st.2)), ended_at most ys h.1 st.0 st.1 x st.4 j l, st.3)
+ended_at most (y ∷ ys) h s n x (inl st) j l = grind (arith, ended_first)
+ended_at most (y ∷ ys) h s n x (inr st) j l = grind (arith, ended_past, ended_at most ys h.1 st.0 st.1 x st.4 j l)
 
 -- the span whose count write begins with event i
 pub record Begins (xs : List Span) (i : ℕ) : Type 0 where
@@ -163,16 +135,8 @@ later most y ys i j h e b = record {
 }
 
 first : (most : ℕ) (y : Span) (ys : List Span) (i : ℕ) → Proper most y → i ≡ before_count y → 1 ≤ counts y.outcome → Begins (y ∷ ys) i
-first most y ys i h e o = record {
-  start = 0;
-  number = 0;
-  span = y;
-  stands = inl (refl, refl, refl);
-  passes = o;
-  place = omega arith;
-  now = begun_first most y ys i h (omega arith);
-  next = omega (arith, begun_middle y ys (suc i) (omega arith) (omega (arith, e, before-count most y h o)));
-}
+first most y ys i h e o =
+    grind (arith, begun_first most y ys i h (omega arith), begun_middle y ys (suc i) (omega arith) (omega (arith, e, before-count most y h o)), before-count most y h o)
 
 -- an event begins no count write, or one
 pub begun_step : (most : ℕ) (xs : List Span) → AllProper most xs → (i : ℕ) → (counts_begun xs (suc i) ≡ counts_begun xs i) ⊎ Begins xs i
@@ -208,15 +172,7 @@ begun_up most xs h i j l = subst (λ m. counts_begun xs i ≤ counts_begun xs m)
 -- nor that of ended ones, one event later
 ended_up_one : (most : ℕ) (xs : List Span) → AllProper most xs → (i : ℕ) → counts_ended xs i ≤ counts_ended xs (suc i)
 ended_up_one most [] h i = omega arith
-ended_up_one most (y ∷ ys) h i = elim (at_most_or_above (whole y) i) [
-  | inl l ↦ omega (
-    arith,
-    ended_up_one most ys h.1 (i - whole y),
-    ended_past y ys i (i - whole y) (omega arith),
-    ended_past y ys (suc i) (suc (i - whole y)) (omega arith),
-  )
-  | inr l ↦ omega (arith, ended_first most y ys i h.1 l)
-]
+ended_up_one most (y ∷ ys) h i = grind (arith, at_most_or_above, ended_past, ended_first, ended_up_one most ys h.1 (i - whole y))
 
 -- nor ever after
 pub ended_up : (most : ℕ) (xs : List Span) → AllProper most xs → (i j : ℕ) → i ≤ j → counts_ended xs i ≤ counts_ended xs j
@@ -234,13 +190,7 @@ in_all (x ∷ xs) = counts x.outcome + in_all xs
 -- no more are ever counted
 pub begun_all : (most : ℕ) (xs : List Span) → AllProper most xs → (i : ℕ) → counts_begun xs i ≤ in_all xs
 begun_all most [] h i = omega arith
-begun_all most (y ∷ ys) h i = elim (at_most_or_above (whole y) i) [
-  | inl l ↦ omega (arith, begun_past most y ys i (i - whole y) h.0 (omega arith), begun_all most ys h.1 (i - whole y))
-  | inr l ↦ elim (at_most_or_above i (before_count y)) [
-    | inl m ↦ omega (arith, begun_first most y ys i h.0 m)
-    | inr m ↦ omega (arith, begun_middle y ys i m (omega arith))
-  ]
-]
+begun_all most (y ∷ ys) h i = grind (arith, at_most_or_above, begun_past, begun_first, begun_middle, begun_all most ys h.1 (i - whole y))
 
 -- past the last span all have ended
 pub ended_all : (xs : List Span) → (i : ℕ) → total xs ≤ i → counts_ended xs i ≡ in_all xs
@@ -345,46 +295,33 @@ ended_find most (y ∷ ys) h i k l = elim (at_most_or_above (whole y) i) [
 ]
 
 length_if : (t : Bool) (o : Outcome) → length (if t then items_of o else []) ≡ (if t then counts o else 0)
-length_if true o = sym (counts-items o)
-length_if false o = refl
+length_if t o = grind (arith, counts-items)
 
 -- there is an item for each count write that has begun
 pub length-begun_items : (xs : List Span) (i : ℕ) → length (begun_items xs i) ≡ counts_begun xs i
 length-begun_items [] i = refl
-length-begun_items (y ∷ ys) i =
-    simp length-append (ap₂ (λ (m n : ℕ). m + n) (length_if (nat_lt (before_count y) i) y.outcome) (length-begun_items ys (i - whole y)))
+length-begun_items (y ∷ ys) i = grind (arith, length-append, length_if, length-begun_items ys (i - whole y))
 
 -- and for each that has ended
 pub length-ended_items : (xs : List Span) (i : ℕ) → length (ended_items xs i) ≡ counts_ended xs i
 length-ended_items [] i = refl
-length-ended_items (y ∷ ys) i =
-    simp length-append (ap₂ (λ (m n : ℕ). m + n) (length_if (nat_le (whole y) i) y.outcome) (length-ended_items ys (i - whole y)))
+length-ended_items (y ∷ ys) i = grind (arith, length-append, length_if, length-ended_items ys (i - whole y))
 
 -- after the first span its items are among them
 pub begun_items_past :
     (most : ℕ) (y : Span) (ys : List Span) (i : ℕ) → Proper most y → whole y ≤ i → begun_items (y ∷ ys) i ≡ items_of y.outcome ++ begun_items ys (i - whole y)
-begun_items_past most y ys i h l = elim (at_most_or_above i (before_count y)) [
-  | inr m ↦ begun_items_cons y ys i m
-  | inl m ↦ (
-      let none : items_of y.outcome ≡ [] = no-items y.outcome (no-count most y h (omega (arith, l, m))) in
-      ap (λ (l : List ℕ). l ++ begun_items ys (i - whole y)) (if_false _ (items_of y.outcome) (grind (arith, nat_tests)) ∙ sym none))
-]
+begun_items_past most y ys i h l = grind (arith, at_most_or_above, begun_items_cons, no-items, no-count, if_false, nat_tests)
 
 -- after the last span they are all items
 pub all_begun : (most : ℕ) (xs : List Span) → AllProper most xs → (i : ℕ) → total xs ≤ i → begun_items xs i ≡ all_items xs
 all_begun most [] h i l = refl
-all_begun most (y ∷ ys) h i l =
-    begun_items_past most y ys i h.0 (omega arith) ∙ ap (λ (l : List ℕ). items_of y.outcome ++ l) (all_begun most ys h.1 (i - whole y) (omega arith))
+all_begun most (y ∷ ys) h i l = grind (arith, begun_items_past most y ys i h.0 (omega arith), all_begun most ys h.1 (i - whole y) (omega arith))
 
 -- at first there are none
 pub none_begun : (xs : List Span) → begun_items xs 0 ≡ []
 none_begun [] = refl
-none_begun (y ∷ ys) =
-    let e : 0 - whole y ≡ 0 = omega arith in
-    rw (e, none_begun ys) (ap (λ (l : List ℕ). l ++ []) (if_false (nat_lt (before_count y) 0) (items_of y.outcome) (grind (arith, nat_tests))))
+none_begun (y ∷ ys) = grind (arith, if_false, nat_tests, none_begun ys)
 
 -- nor before the first count write
 pub begun_items_first : (y : Span) (ys : List Span) (i : ℕ) → i ≤ before_count y → before_count y ≤ whole y → begun_items (y ∷ ys) i ≡ []
-begun_items_first y ys i l w =
-    let e : i - whole y ≡ 0 = omega arith in
-    rw (e, none_begun ys) (ap (λ (l : List ℕ). l ++ []) (if_false (nat_lt (before_count y) i) (items_of y.outcome) (grind (arith, nat_tests))))
+begun_items_first y ys i l w = grind (arith, none_begun, if_false, nat_tests)

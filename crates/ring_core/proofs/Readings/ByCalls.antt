@@ -1,5 +1,5 @@
 -- Calls one after the other, whichever side makes them: the phrases of the first ones, and of the later ones.
-use Rattle.std.proofs.Common.{◌≡◌, false, List, [], ◌∷◌, ◌++◌, refl, sym, ap, ◌∙◌, append_assoc, append-nil}
+use Rattle.std.proofs.Common.{◌≡◌, false, List, [], ◌∷◌, ◌++◌, refl, sym, ap, ◌∙◌, append_assoc, append-nil, arith}
 use Rattle.bits_core.specs.declared.shapes.Shape.{Shape}
 use Rattle.bits_core.specs.Made.{Made}
 use Rattle.ring_core.specs.Counts.{first_count}
@@ -36,10 +36,7 @@ calls-append {phrase} {phrases} {after} {state} go s (x ∷ xs) ys =
 pub calls-push :
     {S X : Type 0} → {phrase : S → X → List Made} → {phrases : S → List X → List Made} → {after : S → X → S} → {state : S → List X → S} →
     GoByCalls phrase phrases after state → (s : S) (xs : List X) (x : X) → phrases s (xs ++ x ∷ []) ≡ phrases s xs ++ phrase (state s xs) x
-calls-push {S} {phrase} {phrases} {after} {state} go s xs x =
-    let last : S = state s xs in
-    calls-append go s xs (x ∷ []) ∙
-    ap (λ l. phrases s xs ++ l) (go.more last x [] ∙ ap (λ l. phrase last x ++ l) (go.none (after last x)) ∙ append-nil (phrase last x))
+calls-push {S} {phrase} {phrases} {after} {state} go s xs x = grind (arith, calls-append go s xs (x ∷ []), append-nil (phrase (state s xs) x))
 
 -- this holds for puts and for takes
 pub puts_go_by_calls : (shape : Shape) → GoByCalls (put_phrase shape) (put_phrases shape) (stored_after shape) (stored_count shape)

@@ -1,5 +1,5 @@
 -- Lists of events and of accesses that two programs begin with.
-use Rattle.std.proofs.Common.{◌≡◌, ℕ, suc, ◌*◌, ◌<◌, ◌≤◌, List, [], ◌∷◌, ◌++◌, length, refl, sym, ap, ◌∙◌, arith, ◌⊎◌, append_assoc}
+use Rattle.std.proofs.Common.{◌≡◌, ℕ, suc, ◌*◌, ◌<◌, ◌≤◌, List, [], ◌∷◌, ◌++◌, length, refl, sym, ap, ◌∙◌, arith, ◌⊎◌, append_assoc, append-nil, length-append}
 use Rattle.bits_core.specs.declared.events.Side.{Side}
 use Rattle.bits_core.specs.declared.events.Event.{Event}
 use Rattle.bits_core.specs.Made.{Made, begin_event, events_of, IsPrefix}
@@ -31,24 +31,10 @@ pub record BeginBoth (s : Side) (t : ℕ) (left right : List Made) : Type 0 wher
 pub begin_both :
     (s : Side) (es : List Event) (left right : List Made) →
     IsPrefix es (events_of s left) → IsPrefix es (events_of s right) → BeginBoth s (length es) left right
-begin_both s [] left right p q = record {
-  made = [];
-  begins_left = (left, refl);
-  begins_right = (right, refl);
-  reach = omega arith;
-  next = λ l. absurd (omega (arith, l));
-}
+begin_both s [] left right p q = grind arith
 begin_both s (e ∷ []) [] right (r, p) q = absurd (cc)
 begin_both s (e ∷ []) (x ∷ left) [] p (r, q) = absurd (cc)
-begin_both s (e ∷ []) (x ∷ left) (y ∷ right) (r, p) (r', q) =
-    let same : begin_event s x ≡ begin_event s y = cc in
-    record {
-      made = [];
-      begins_left = (x ∷ left, refl);
-      begins_right = (y ∷ right, refl);
-      reach = omega arith;
-      next = λ l. record { on_left = x; on_right = y; more_left = left; more_right = right; left_is = refl; right_is = refl; same = same };
-    }
+begin_both s (e ∷ []) (x ∷ left) (y ∷ right) (r, p) (r', q) = grind arith
 begin_both s (e ∷ f ∷ es) [] right (r, p) q = absurd (cc)
 begin_both s (e ∷ f ∷ es) (x ∷ left) [] p (r, q) = absurd (cc)
 begin_both s (e ∷ f ∷ es) (x ∷ left) (y ∷ right) (r, p) (r', q) =
@@ -61,17 +47,7 @@ begin_both s (e ∷ f ∷ es) (x ∷ left) (y ∷ right) (r, p) (r', q) =
       begins_left = (rest.begins_left.0, ap (λ l. x ∷ l) rest.begins_left.1);
       begins_right = (rest.begins_right.0, ap (λ l. x ∷ l) rest.begins_right.1 ∙ ap (λ z. z ∷ right) same);
       reach = omega (arith, rest.reach);
-      next = λ l.
-          (let open_both = rest.next (omega (arith, l)) in
-          record {
-            on_left = open_both.on_left;
-            on_right = open_both.on_right;
-            more_left = open_both.more_left;
-            more_right = open_both.more_right;
-            left_is = ap (λ l. x ∷ l) open_both.left_is;
-            right_is = ap (λ z. z ∷ right) (sym same) ∙ ap (λ l. x ∷ l) open_both.right_is;
-            same = open_both.same;
-          });
+      next = λ l. grind arith;
     }
 
 -- a prefix of a list that is no shorter than the list's first part consists of that part and a prefix of the rest
@@ -80,11 +56,7 @@ pub cut :
     (rest : List A) × (made ≡ us ++ rest) × (rest ++ more ≡ vs)
 cut [] vs made more l e = (made, refl, e)
 cut (u ∷ us) vs [] more l e = absurd (omega (arith, l))
-cut (u ∷ us) vs (m ∷ made) more l e =
-    let rest : (rest : List _) × (made ≡ us ++ rest) × (rest ++ more ≡ vs) = cut us vs made more (omega (arith, l)) (cc) in
-    let tail : made ≡ us ++ rest.0 = rest.1 in
-    let head : m ≡ u = cc in
-    (rest.0, cc, rest.2)
+cut (u ∷ us) vs (m ∷ made) more l e = grind (arith, cut us vs made more (omega (arith, l)) (cc))
 
 -- another program that begins with the same accesses begins with their first part too
 pub also_begins :
@@ -95,8 +67,9 @@ also_begins us rest made left e (more, f) = (more, sym (append_assoc us rest mor
 pub made_first : (s : Side) (left right : List Made) → IsPrefix (events_of s left) (events_of s right) → IsPrefix left right
 made_first s [] right begins = (right, refl)
 made_first s (x ∷ left) [] (r, e) = absurd (cc)
-made_first s (x ∷ left) (y ∷ right) (r, e) =
-    let same : x ≡ y = same_made s x y (cc) (cc) in
-    let tails : events_of s left ++ r ≡ events_of s right = cc in
-    let (rest, f) = made_first s left right (r, tails) in
-    (rest, ap (λ l. x ∷ l) f ∙ ap (λ z. z ∷ right) same)
+made_first s (x ∷ left) (y ∷ right) (r, e) = grind (arith, same_made, made_first s left right (r, cc))
+
+-- lists that begin with each other are the same
+pub begin_each_other : {A : Type 0} (xs ys more more' : List A) → ys ≡ xs ++ more → xs ≡ ys ++ more' → xs ≡ ys
+begin_each_other xs ys [] more' e f = sym (e ∙ append-nil xs)
+begin_each_other xs ys (x ∷ more) more' e f = absurd (omega (arith, ap length e, ap length f, length-append xs (x ∷ more), length-append ys more'))

@@ -1,24 +1,21 @@
 -- The items put in a history are those of each reading of its events.
-use Rattle.std.proofs.Common.{◌≡◌, ℕ, suc, true, false, ap₂, ◌-◌, ◌*◌, ◌%◌, ◌<◌, ◌≤◌, Bool, List, [], ◌∷◌, ◌++◌, length, refl, sym, ap, subst, ◌∙◌, arith, inl, inr, nat_lt, if◌then◌else◌, append_assoc, append-nil, length-append}
+use Rattle.std.proofs.Common.{◌≡◌, ℕ, suc, true, ap₂, ◌-◌, ◌*◌, ◌<◌, ◌≤◌, Bool, List, [], ◌∷◌, ◌++◌, length, refl, sym, ap, subst, ◌∙◌, arith, inl, inr, nat_lt, if◌then◌else◌, append_assoc, append-nil, length-append}
 use Rattle.std.proofs.lemmas.Bool.{le-ltb}
 use Rattle.std.proofs.lemmas.List.{append_cancel_left}
 use Rattle.bits_core.specs.declared.events.Side.TheVariants.{P}
-use Rattle.bits_core.specs.declared.events.Act.TheVariants.{ReadBegin, WriteBegin}
 use Rattle.bits_core.specs.declared.events.Bit.{Bit}
 use Rattle.bits_core.specs.declared.events.Bit.TheVariants.{X, Cell}
-use Rattle.bits_core.specs.declared.events.Event.{Event}
 use Rattle.bits_core.specs.declared.shapes.Shape.{Shape}
-use Rattle.bits_core.specs.Shape.{modulus_of}
 use Rattle.bits_core.specs.Made.{Made, Read, Write, begin_event, subhistory, IsPrefix}
 use Rattle.register_core.specs.ScanState.{scan_phrase, row_read_by}
 use Rattle.ring_core.specs.Counts.{Count, first_count, batch_phrase, IsCount}
-use Rattle.ring_core.specs.Readings.{PutsAreFirst}
+use Rattle.ring_core.specs.Readings.{PutsAreFirst, PutsAreRead}
 use Rattle.ring_core.specs.Puts.{accesses_before_count, Put, Puts, Stored, Full, stored_after, stored_count, words_phrase, put_phrase, put_phrases, close_phrase, put_program, IsPut, ArePuts}
 use Rattle.ring_core.specs.Items.{events_in, items_put, ItemsAreRead}
 use Rattle.ring_core.proofs.Readings.Phrases.{same_scan, scan_begins}
 use Rattle.ring_core.proofs.Readings.PutsRead.{no_close, puts_stored, puts_full, no_room, some_room, NoCellFirst, count_first, same_words}
 use Rattle.ring_core.proofs.CountRow.{first_is_count, counted_is_count}
-use Rattle.ring_core.proofs.Readings.Cuts.{at_most_or_above, OpenBoth, BeginBoth, begin_both, cut, also_begins, made_first}
+use Rattle.ring_core.proofs.Readings.Cuts.{at_most_or_above, OpenBoth, BeginBoth, begin_both, begin_each_other, cut, also_begins, made_first}
 
 -- the producer's calls starting at a count
 abbrev puts_from : Shape → Count → List Put → Bool → List Made
@@ -36,17 +33,13 @@ rest_of shape c (Full seen) = []
 
 -- a put is its head and the rest
 put_parts : (shape : Shape) (c : Count) (x : Put) → put_phrase shape c x ≡ head_of shape c x ++ rest_of shape c x
-put_parts shape c (Stored seen items) = refl
-put_parts shape c (Full seen) = sym (append-nil (scan_phrase (row_read_by P) seen))
+put_parts shape c x = grind (arith, append-nil)
 
 -- a list of puts from the first put's head on
 from_head :
     (shape : Shape) (c : Count) (x : Put) (puts : List Put) (close : Bool) →
     puts_from shape c (x ∷ puts) close ≡ head_of shape c x ++ (rest_of shape c x ++ puts_from shape (stored_after shape c x) puts close)
-from_head shape c x puts close =
-    append_assoc (put_phrase shape c x) (put_phrases shape (stored_after shape c x) puts) (close_phrase close)
-    ∙ ap (λ l. l ++ puts_from shape (stored_after shape c x) puts close) (put_parts shape c x)
-    ∙ append_assoc (head_of shape c x) (rest_of shape c x) (puts_from shape (stored_after shape c x) puts close)
+from_head shape c x puts close = grind (arith, append_assoc, put_parts)
 
 -- the items of a put whose count write has begun within its first t events
 abbrev items_begun : Shape → Count → Put → ℕ → List ℕ
@@ -57,24 +50,17 @@ items_begun shape c (Full seen) t = []
 first_items :
     (shape : Shape) (c : Count) (x : Put) (puts : List Put) (t : ℕ) →
     items_put shape c (x ∷ puts) t ≡ items_begun shape c x t ++ items_put shape (stored_after shape c x) puts (t - events_in (put_phrase shape c x))
-first_items shape c (Stored seen items) puts t = refl
-first_items shape c (Full seen) puts t = refl
+first_items shape c x puts t = grind arith
 
 -- a put whose count write has not begun has put no item
 not_begun : (shape : Shape) (c : Count) (x : Put) (t : ℕ) → t ≤ events_in (head_of shape c x) → items_begun shape c x t ≡ []
-not_begun shape c (Stored seen items) t l =
-    ap (λ b. if b then items else []) (le-ltb (events_in (accesses_before_count shape c.number seen items)) t l)
-not_begun shape c (Full seen) t l = refl
+not_begun shape c x t l = grind (arith, le-ltb)
 
 -- within no event no item is put
 pub none_put : (shape : Shape) (c : Count) (puts : List Put) (t : ℕ) → t ≡ 0 → items_put shape c puts t ≡ []
 none_put shape c [] t e = refl
 none_put shape c (x ∷ puts) t e =
-    let next : Count = stored_after shape c x in
-    let after : items_put shape next puts (t - events_in (put_phrase shape c x)) ≡ [] =
-    none_put shape next puts (t - events_in (put_phrase shape c x)) (omega (arith, e)) in
-    let here : items_begun shape c x t ≡ [] = not_begun shape c x t (omega (arith, e)) in
-    first_items shape c x puts t ∙ ap (λ l. items_begun shape c x t ++ l) after ∙ append-nil (items_begun shape c x t) ∙ here
+    grind (arith, not_begun, first_items, append-nil, none_put shape (stored_after shape c x) puts (t - events_in (put_phrase shape c x)) (omega (arith, e)))
 
 -- the head of a put is no longer than the put
 head_within : (shape : Shape) (c : Count) (x : Put) → length (head_of shape c x) ≤ length (put_phrase shape c x)
@@ -83,11 +69,7 @@ head_within shape c x = omega (arith, length-append (head_of shape c x) (rest_of
 -- while nothing follows the first put's head no item is put
 late_put :
     (shape : Shape) (c : Count) (x : Put) (puts : List Put) (t : ℕ) → t ≤ events_in (head_of shape c x) → items_put shape c (x ∷ puts) t ≡ []
-late_put shape c x puts t l =
-    let next : Count = stored_after shape c x in
-    let after : items_put shape next puts (t - events_in (put_phrase shape c x)) ≡ [] =
-    none_put shape next puts (t - events_in (put_phrase shape c x)) (omega (arith, l, head_within shape c x)) in
-    first_items shape c x puts t ∙ ap (λ l. items_begun shape c x t ++ l) after ∙ append-nil (items_begun shape c x t) ∙ not_begun shape c x t l
+late_put shape c x puts t l = grind (arith, none_put, head_within, first_items, append-nil, not_begun)
 
 -- ---- two readings
 
@@ -96,25 +78,11 @@ abbrev AreOpen : ℕ → (made left right : List Made) → Type 0
 AreOpen t made left right = suc (2 * length made) ≤ t → OpenBoth P made left right
 
 turned : (made left right : List Made) → OpenBoth P made left right → OpenBoth P made right left
-turned made left right o = record {
-  on_left = o.on_right;
-  on_right = o.on_left;
-  more_left = o.more_right;
-  more_right = o.more_left;
-  left_is = o.right_is;
-  right_is = o.left_is;
-  same = sym o.same;
-}
+turned made left right o = grind arith
 
 -- an access that starts as a write to a cell does is that write
 begins_as_cell : (x y : Made) (j d : ℕ) (v : Bool) → begin_event P x ≡ begin_event P y → y ≡ Write (Cell j d) v → x ≡ Write (Cell j d) v
-begins_as_cell (Read b w) y j d v e f =
-    let acts : ReadBegin ≡ WriteBegin v = ap (λ (z : Event). z.act) (e ∙ ap (begin_event P) f) in
-    absurd (cc)
-begins_as_cell (Write b w) y j d v e f =
-    let acts : WriteBegin w ≡ WriteBegin v = ap (λ (z : Event). z.act) (e ∙ ap (begin_event P) f) in
-    let bits : b ≡ Cell j d = ap (λ (z : Event). z.bit) (e ∙ ap (begin_event P) f) in
-    cc
+begins_as_cell x y j d v e f = grind arith
 
 -- after the words of a put whose count write has begun in one reading, the other one too continues with no write to a cell
 goes_on :
@@ -125,18 +93,7 @@ goes_on head after made left right t left_is none (more, e) begins both early re
     by_rest rest made_is ends
   where
     by_rest : (rest : List Made) → made ≡ head ++ rest → rest ++ more ≡ after → (zs : List Made) × (head ++ zs ≡ right) × NoCellFirst zs
-    by_rest [] made_is ends =
-        let o = both (omega (arith, early, ap length made_is, length-append head [])) in
-        let made_head : made ≡ head = made_is ∙ append-nil head in
-        let after_is : after ≡ o.on_left ∷ o.more_left =
-        append_cancel_left head after (o.on_left ∷ o.more_left) (sym left_is ∙ o.left_is ∙ ap (λ l. l ++ o.on_left ∷ o.more_left) made_head) in (
-          o.on_right ∷ o.more_right,
-          ap (λ l. l ++ o.on_right ∷ o.more_right) (sym made_head) ∙ sym o.right_is,
-          λ j d v later is.
-              (let on_right : o.on_right ≡ Write (Cell j d) v = cc in
-              let on_left : o.on_left ≡ Write (Cell j d) v = begins_as_cell o.on_left o.on_right j d v o.same on_right in
-              none j d v o.more_left (after_is ∙ ap (λ x. x ∷ o.more_left) on_left)),
-        )
+    by_rest [] made_is ends = grind (arith, length-append, append-nil, append_cancel_left, begins_as_cell)
     by_rest (z ∷ rest) made_is ends =
         let (later, is) = also_begins head (z ∷ rest) made right made_is begins in (
           (z ∷ rest) ++ later,
@@ -150,7 +107,6 @@ goes_on head after made left right t left_is none (more, e) begins both early re
 no_scan_first : (bit_of : ℕ → Bit) (c : ℕ) (xs zs : List Made) → Write X true ∷ zs ≡ scan_phrase bit_of c ++ xs → ⊥
 no_scan_first bit_of c xs zs e =
     let begins : (v : Bool) × (rest : List Made) × (scan_phrase bit_of c ++ xs ≡ Read (bit_of 0) v ∷ rest) = scan_begins bit_of c xs in
-    let clash : Write X true ∷ zs ≡ Read (bit_of 0) begins.0 ∷ begins.1 = e ∙ begins.2 in
     absurd (cc)
 
 pub same_calls : (a b : Puts) → a.puts ≡ b.puts → a.closes ≡ b.closes → a ≡ b
@@ -162,16 +118,12 @@ pub same_stored :
     ArePuts shape c.number ys → NoCellFirst zs → head_of shape c (Stored u i) ++ zs ≡ puts_from shape c ys b → (more : List Put) × (ys ≡ Stored u i ∷ more)
 same_stored shape c u i [] b zs is p q none e =
     absurd (no_close b (row_read_by P) u _ (sym e ∙ append_assoc (scan_phrase (row_read_by P) u) (words_phrase shape c.number i) zs))
-same_stored shape c u i (Full v ∷ ys) b zs is (below, room, batch) ((below', full), q) none e =
-    let words : List Made = words_phrase shape c.number i in
-    absurd (no_room shape c.number u v _ _ (some_room shape (c.number % modulus_of shape) u _ batch.some room) full
-    (sym (append_assoc (scan_phrase (row_read_by P) u) words zs) ∙ e ∙ puts_full shape c v ys b))
+same_stored shape c u i (Full v ∷ ys) b zs is (below, room, batch) ((below', full), q) none e = grind (arith, no_room, some_room, append_assoc, puts_full)
 same_stored shape c u i (Stored v j ∷ ys) b zs is (below, room, batch) ((below', room', batch'), q) none e =
     let w : List ℕ → List Made = words_phrase shape c.number in
     let right : List Made = batch_phrase shape P c j ++ puts_from shape (stored_after shape c (Stored v j)) ys b in
     let scans : (u ≡ v) × (w i ++ zs ≡ w j ++ right) =
     same_scan (row_read_by P) u v _ _ (sym (append_assoc (scan_phrase (row_read_by P) u) (w i) zs) ∙ e ∙ puts_stored shape c v j ys b) in
-    let seen : u ≡ v = scans.0 in
     let items : i ≡ j = (same_words shape c.number i j zs right batch.fit batch'.fit none (count_first shape c j _ is batch') scans.1).0 in
     (ys, cc)
 
@@ -179,8 +131,7 @@ pub same_full :
     (shape : Shape) (c : Count) (u : ℕ) (ys : List Put) (b : Bool) (zs : List Made) → IsPut shape c.number (Full u) → ArePuts shape c.number ys →
     scan_phrase (row_read_by P) u ++ zs ≡ puts_from shape c ys b → (more : List Put) × (ys ≡ Full u ∷ more)
 same_full shape c u [] b zs p q e = absurd (no_close b (row_read_by P) u _ (sym e))
-same_full shape c u (Stored v j ∷ ys) b zs (below, full) ((below', room, batch), q) e =
-    absurd (no_room shape c.number v u _ _ (some_room shape (c.number % modulus_of shape) v _ batch.some room) full (sym (puts_stored shape c v j ys b) ∙ sym e))
+same_full shape c u (Stored v j ∷ ys) b zs (below, full) ((below', room, batch), q) e = grind (arith, no_room, some_room, puts_stored)
 same_full shape c u (Full v ∷ ys) b zs p q e =
     let seen : u ≡ v = (same_scan (row_read_by P) u v _ _ (e ∙ puts_full shape c v ys b)).0 in
     (ys, cc)
@@ -204,17 +155,7 @@ reads_first shape c (Full u) xs ys a b made t is p q (more, e) begins both early
 -- after a complete put that both readings begin with
 open_behind :
     (phrase rest left right : List Made) (t : ℕ) → AreOpen t (phrase ++ rest) (phrase ++ left) (phrase ++ right) → AreOpen (t - events_in phrase) rest left right
-open_behind phrase rest left right t both l =
-    let o = both (omega (arith, l, length-append phrase rest)) in
-    record {
-      on_left = o.on_left;
-      on_right = o.on_right;
-      more_left = o.more_left;
-      more_right = o.more_right;
-      left_is = append_cancel_left phrase left (rest ++ o.on_left ∷ o.more_left) (o.left_is ∙ append_assoc phrase rest (o.on_left ∷ o.more_left));
-      right_is = append_cancel_left phrase right (rest ++ o.on_right ∷ o.more_right) (o.right_is ∙ append_assoc phrase rest (o.on_right ∷ o.more_right));
-      same = o.same;
-    }
+open_behind phrase rest left right t both l = grind (arith, length-append, append_cancel_left, append_assoc)
 
 pub stored_is_count : (shape : Shape) (c : Count) (x : Put) → IsCount shape c → IsCount shape (stored_after shape c x)
 stored_is_count shape c (Stored seen items) is = counted_is_count shape c items
@@ -267,16 +208,11 @@ same_items shape c (x ∷ xs) (y ∷ ys) a b made t is p q l r both reach =
                 let (rest, made_is, ends) = cut phrase (puts_from shape next xs a) made l.0 whole (l.1 ∙ left_parts) in
                 let (more', f) = also_begins phrase rest made (puts_from shape c (x ∷ ys) b) made_is begins in
                 let ends' : rest ++ more' ≡ puts_from shape next ys b = append_cancel_left phrase (rest ++ more') (puts_from shape next ys b) (f ∙ right_parts) in
-                let both'' : AreOpen t (phrase ++ rest) (phrase ++ puts_from shape next xs a) (phrase ++ puts_from shape next ys b) =
-                subst (λ m. AreOpen t m (phrase ++ puts_from shape next xs a) (phrase ++ puts_from shape next ys b)) made_is
-                (subst (λ z. AreOpen t made z (phrase ++ puts_from shape next ys b)) left_parts
-                (subst (λ z. AreOpen t made (puts_from shape c (x ∷ xs) a) z) right_parts both')) in
+                let both'' : AreOpen t (phrase ++ rest) (phrase ++ puts_from shape next xs a) (phrase ++ puts_from shape next ys b) = grind arith in
                 same_items shape next xs ys a b rest (t - events_in phrase) (stored_is_count shape c x is) p.1 are (l.0, ends) (more', ends')
                 (open_behind phrase rest (puts_from shape next xs a) (puts_from shape next ys b) t both'')
                 (omega (arith, reach, ap length made_is, length-append phrase rest))
-            | inr longer ↦
-                let over : t - events_in phrase ≡ 0 = omega (arith, longer, reach) in
-                none_put shape next xs (t - events_in phrase) over ∙ sym (none_put shape next ys (t - events_in phrase) over)
+            | inr longer ↦ grind (arith, none_put)
           ] in
           first_items shape c x xs t ∙ ap (λ l. items_begun shape c x t ++ l) after ∙ sym (first_items shape c x ys t)
           ∙ ap (λ z. items_put shape c (z ∷ ys) t) (sym same)
@@ -285,8 +221,7 @@ same_items shape c (x ∷ xs) (y ∷ ys) a b made t is p q l r both reach =
 -- the items put in a history are the same whichever puts its events are read as
 pub items-are_read : ItemsAreRead
 items-are_read shape h a b p q =
-    let both : BeginBoth P (length (subhistory P h)) (put_program shape a) (put_program shape b) =
-    begin_both P (subhistory P h) (put_program shape a) (put_program shape b) p.events q.events in
+    let both : BeginBoth P (length (subhistory P h)) (put_program shape a) (put_program shape b) = grind (arith, begin_both) in
     same_items shape first_count a.puts b.puts a.closes b.closes both.made (length (subhistory P h)) (first_is_count shape) p.are q.are both.begins_left both.begins_right
     both.next both.reach
 
@@ -300,12 +235,13 @@ first_put shape c (Stored u i) ys b tail is p q e =
     (sym (append_assoc (head_of shape c (Stored u i)) (batch_phrase shape P c i) tail) ∙ e)
 first_put shape c (Full u) ys b tail is p q e = same_full shape c u ys b tail p q e
 
--- puts whose accesses begin with those of complete puts begin with these
-first_puts :
+-- puts whose accesses begin with those of complete puts begin with these, and then continue from their count
+pub first_puts :
     (shape : Shape) (c : Count) (xs ys : List Put) (b : Bool) (zs : List Made) → IsCount shape c → ArePuts shape c.number xs →
     ArePuts shape c.number ys → put_phrases shape c xs ++ zs ≡ puts_from shape c ys b →
-    (more : List Put) × (ys ≡ xs ++ more) × (zs ≡ puts_from shape (stored_count shape c xs) more b)
-first_puts shape c [] ys b zs is p q e = (ys, refl, e)
+    (more : List Put) × (ys ≡ xs ++ more) × (zs ≡ puts_from shape (stored_count shape c xs) more b) ×
+    IsCount shape (stored_count shape c xs) × ArePuts shape (stored_count shape c xs).number more
+first_puts shape c [] ys b zs is p q e = (ys, refl, e, is, q)
 first_puts shape c (x ∷ xs) ys b zs is p q e =
     let next : Count = stored_after shape c x in
     let phrase : List Made = put_phrase shape c x in
@@ -313,18 +249,13 @@ first_puts shape c (x ∷ xs) ys b zs is p q e =
     let parts : phrase ++ tail ≡ puts_from shape c ys b = sym (append_assoc phrase (put_phrases shape next xs) zs) ∙ e in
     let (rest, same) = first_put shape c x ys b tail is p.0 q parts in
     let are : ArePuts shape next.number rest = (subst (λ l. ArePuts shape c.number l) same q).1 in
-    let whole : phrase ++ tail ≡ phrase ++ puts_from shape next rest b =
-    parts ∙ ap (λ l. puts_from shape c l b) same ∙ append_assoc phrase (put_phrases shape next rest) (close_phrase b) in
-    let (more, f, g) = first_puts shape next xs rest b zs (stored_is_count shape c x is) p.1 are (append_cancel_left phrase tail (puts_from shape next rest b) whole) in
-    (more, same ∙ ap (λ l. x ∷ l) f, g)
+    let whole : phrase ++ tail ≡ phrase ++ puts_from shape next rest b = grind (arith, append_assoc) in
+    let (more, f, later, counted, all) = first_puts shape next xs rest b zs (stored_is_count shape c x is) p.1 are (append_cancel_left phrase tail (puts_from shape next rest b) whole) in
+    (more, same ∙ ap (λ l. x ∷ l) f, later, counted, all)
 
 -- if a close comes next, no put does
 only_close : (shape : Shape) (c : Count) (more : List Put) (b : Bool) (zs : List Made) → Write X true ∷ zs ≡ puts_from shape c more b → (more ≡ []) × (b ≡ true)
-only_close shape c [] b zs e = (refl, closing b e)
-  where
-    closing : (b : Bool) → Write X true ∷ zs ≡ close_phrase b → b ≡ true
-    closing true e = refl
-    closing false e = absurd (cc)
+only_close shape c [] b zs e = grind arith
 only_close shape c (Stored u i ∷ more) b zs e = absurd (no_scan_first (row_read_by P) u _ zs (e ∙ puts_stored shape c u i more b))
 only_close shape c (Full u ∷ more) b zs e = absurd (no_scan_first (row_read_by P) u _ zs (e ∙ puts_full shape c u more b))
 
@@ -333,7 +264,7 @@ first_calls :
     ((more : List Put) × (b.puts ≡ a.puts ++ more)) × (a.closes ≡ true → a ≡ b)
 first_calls shape a b zs p q e =
     let front : List Made = put_phrases shape first_count a.puts in
-    let (more, f, g) =
+    let (more, f, g, is, are) =
     first_puts shape first_count a.puts b.puts b.closes (close_phrase a.closes ++ zs) (first_is_count shape) p q
     (sym (append_assoc front (close_phrase a.closes) zs) ∙ e) in (
       (more, f),
@@ -347,3 +278,7 @@ first_calls shape a b zs p q e =
 pub puts-are_first : PutsAreFirst
 puts-are_first shape a b p q begins =
     let (rest, e) = made_first P (put_program shape a) (put_program shape b) begins in first_calls shape a b rest p q e
+
+-- puts that begin with each other are the same
+pub puts-are_read : PutsAreRead
+puts-are_read shape a b p q e = grind (arith, puts-are_first, append-nil, begin_each_other, same_calls)

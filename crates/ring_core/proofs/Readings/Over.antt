@@ -1,20 +1,23 @@
 -- The calls that are over are the same in every reading of a history.
-use Rattle.std.proofs.Common.{◌≡◌, ℕ, ◌+◌, ◌-◌, ◌*◌, ◌≤◌, Bool, true, false, cond, List, [], ◌∷◌, ◌++◌, length, refl, sym, ap, subst, ◌∙◌, arith, nat_le, append_assoc, append-nil, length-append}
-use Rattle.std.proofs.lemmas.Bool.{leb-true, le-leb}
+use Rattle.std.proofs.Common.{◌≡◌, inl, inr, ℕ, ◌+◌, ◌-◌, ◌*◌, ◌<◌, ◌≤◌, Bool, true, false, cond, List, [], ◌∷◌, ◌++◌, length, refl, sym, ap, subst, ◌∙◌, arith, nat_le, if◌then◌else◌, append_assoc, append-nil, length-append}
+use Rattle.std.proofs.lemmas.Bool.{leb-true, le-leb, lt-leb}
+use Rattle.std.proofs.lemmas.Bool.Decides.{nat_tests}
 use Rattle.bits_core.specs.declared.events.Side.{Side}
 use Rattle.bits_core.specs.declared.events.Side.TheVariants.{P, C}
 use Rattle.bits_core.specs.declared.events.Event.{Event}
 use Rattle.bits_core.specs.declared.shapes.Shape.{Shape}
 use Rattle.bits_core.specs.Made.{Made, events_of, subhistory, IsPrefix}
 use Rattle.ring_core.specs.Counts.{Count, first_count}
-use Rattle.ring_core.specs.Items.{events_in}
-use Rattle.ring_core.specs.Over.{over, PutsOverAreRead, TakesOverAreRead}
+use Rattle.ring_core.specs.Items.{events_in, taken_of, all_taken, take_ended, items_taken, ToldIn, TakenAreRead}
+use Rattle.ring_core.specs.Over.{over, takes_over, PutsOverAreRead, TakesOverAreRead}
 use Rattle.ring_core.specs.Puts.{Put, Puts, ArePuts, close_phrase, number_after, put_phrase, put_phrases, put_program, stored_after, stored_count}
-use Rattle.ring_core.specs.Takes.{Take, Takes, End, Open, AreTakes, end_phrase, take_phrase, take_phrases, take_program, count_after}
+use Rattle.ring_core.specs.ConsumerCalls.{HasTakeMore}
+use Rattle.ring_core.specs.Takes.{Take, Takes, End, Open, AreTakes, taken_after, taken_in, end_phrase, take_phrase, take_phrases, take_program, count_after}
+use Rattle.ring_core.proofs.CountRow.{past_is}
 use Rattle.ring_core.proofs.Readings.Cuts.{cut}
 use Rattle.ring_core.proofs.Readings.ByCalls.{GoByCalls, calls-append, puts_go_by_calls, takes_go_by_calls}
 use Rattle.ring_core.proofs.Readings.ItemsRead.{puts-are_first}
-use Rattle.ring_core.proofs.Readings.TakenRead.{takes-are_first}
+use Rattle.ring_core.proofs.Readings.TakesRead.{take_is_long, takes-are_first}
 use Rattle.ring_core.proofs.Machines.Following.{events_of-append, length-events}
 
 module _ {S X : Type 0} (events : S → X → ℕ) (after : S → X → S) where
@@ -28,18 +31,21 @@ module _ {S X : Type 0} (events : S → X → ℕ) (after : S → X → S) where
   state s (x ∷ xs) = state (after s x) xs
 
   -- the calls begin with these, which have at most t events
-  record Front (s : S) (xs : List X) (t : ℕ) (ys : List X) : Type 0 where
-    rest : List X
-    parts : xs ≡ ys ++ rest
-    within : total s ys ≤ t
+  pub record Front (s : S) (xs : List X) (t : ℕ) (ys : List X) : Type 0 where
+    pub rest : List X
+    pub parts : xs ≡ ys ++ rest
+    pub within : total s ys ≤ t
 
-  front : (s : S) (xs : List X) (t : ℕ) → Front s xs t (over events after s xs t)
+  pub front : (s : S) (xs : List X) (t : ℕ) → Front s xs t (over events after s xs t)
   front s [] t = record { rest = []; parts = refl; within = omega arith }
   front s (x ∷ xs) t = by_test (front (after s x) xs (t - events s x)) (nat_le (events s x) t) refl
     where
       by_test : (more : Front (after s x) xs (t - events s x) (over events after (after s x) xs (t - events s x))) (b : Bool) → nat_le (events s x) t ≡ b → Front s (x ∷ xs) t (cond b (x ∷ over events after (after s x) xs (t - events s x)) [])
       by_test more true e = record { rest = more.rest; parts = ap (λ l. x ∷ l) more.parts; within = omega (arith, more.within, leb-true (events s x) t e) }
       by_test more false e = record { rest = x ∷ xs; parts = refl; within = omega arith }
+
+  pub over_front : (s : S) (xs : List X) (t : ℕ) → (rest : List X) × (xs ≡ over events after s xs t ++ rest)
+  over_front s xs t = let f = front s xs t in (f.rest, f.parts)
 
   -- if calls start with these, which have at most t events, these are over
   behind : (s : S) (xs ys : List X) (t : ℕ) → total s xs ≤ t → over events after s (xs ++ ys) t ≡ xs ++ over events after (state s xs) ys (t - total s xs)
@@ -50,6 +56,16 @@ module _ {S X : Type 0} (events : S → X → ℕ) (after : S → X → S) where
       ap (λ b. cond b (x ∷ over events after (after s x) (xs ++ ys) (t - events s x)) []) first
       ∙ ap (λ l. x ∷ l) (behind (after s x) xs ys (t - events s x) (omega (arith, l)))
       ∙ ap (λ n. x ∷ (xs ++ over events after (state (after s x) xs) ys n)) left
+
+  -- calls with at most t events are all over
+  all_over : (s : S) (xs : List X) (t : ℕ) → total s xs ≤ t → over events after s xs t ≡ xs
+  all_over s [] t l = refl
+  all_over s (x ∷ xs) t l = grind (arith, le-leb, all_over (after s x) xs (t - events s x) (omega (arith, l)))
+
+  -- and all but the last, if that one makes them more
+  cut_over : (s : S) (xs : List X) (x : X) (t : ℕ) → total s xs ≤ t → t < total s (xs ++ x ∷ []) → over events after s (xs ++ x ∷ []) t ≡ xs
+  cut_over s [] x t l m = ap (λ (b : Bool). cond b (x ∷ []) []) (lt-leb (events s x) t (omega (arith, m)))
+  cut_over s (y ∷ xs) x t l m = grind (arith, le-leb, cut_over (after s y) xs x (t - events s y) (omega (arith, l)) (omega (arith, m)))
 
   none_left : {A : Type 0} (xs ys : List A) → length xs ≤ length ys → (more : List A) → xs ≡ ys ++ more → xs ≡ ys
   none_left xs ys l [] e = e ∙ append-nil ys
@@ -65,6 +81,17 @@ module _ {S X : Type 0} (events : S → X → ℕ) (after : S → X → S) where
       let b_longer : b ≡ a ++ over events after (state s a) u (t - total s a) = ap (λ l. over events after s l t) e ∙ behind s a u t (front s xs t).within in
       let a_longer : a ≡ b ++ over events after (state s b) v (t - total s b) = ap (λ l. over events after s l t) f ∙ behind s b v t (front s ys t).within in
       none_left a b (omega (arith, ap length b_longer, length-append a (over events after (state s a) u (t - total s a)))) (over events after (state s b) v (t - total s b)) a_longer
+
+-- by the accesses of the calls; each access has two events
+module _ {X : Type 0} (phrase : Count → X → List Made) (next : Count → X → Count) (phrases : Count → List X → List Made)
+    (total_is : (c : Count) (xs : List X) → total (λ c x. events_in (phrase c x)) next c xs ≡ 2 * length (phrases c xs)) where
+  pub calls_all_over : (c : Count) (xs : List X) (t : ℕ) → 2 * length (phrases c xs) ≤ t → over (λ c x. events_in (phrase c x)) next c xs t ≡ xs
+  calls_all_over c xs t l = all_over (λ c x. events_in (phrase c x)) next c xs t (omega (arith, l, total_is c xs))
+
+  pub calls_cut_over :
+      (c : Count) (xs : List X) (x : X) (t : ℕ) → 2 * length (phrases c xs) ≤ t → t < 2 * length (phrases c (xs ++ x ∷ [])) →
+      over (λ c x. events_in (phrase c x)) next c (xs ++ x ∷ []) t ≡ xs
+  calls_cut_over c xs x t l m = cut_over (λ c x. events_in (phrase c x)) next c xs x t (omega (arith, l, total_is c xs)) (omega (arith, m, total_is c (xs ++ x ∷ [])))
 
 -- ---- complete calls whose events have come
 
@@ -160,3 +187,61 @@ pub takes_over-read : TakesOverAreRead
 takes_over-read shape h a b p q =
     over_read (takes_go_by_calls shape) C (subhistory C h) first_count a.takes b.takes (end_phrase a.end) (end_phrase b.end) p.events q.events
     (takes_begin shape a b p.are q.are) (takes_begin shape b a q.are p.are)
+
+-- ---- the items taken
+
+-- within no event no take is over
+pub none_over : (shape : Shape) (c : Count) (takes : List Take) → takes_over shape c takes 0 ≡ []
+none_over shape c [] = refl
+none_over shape c (x ∷ takes) = grind (arith, nat_tests, take_is_long shape c x)
+
+-- a take has taken its items once it has ended
+ended_as : (shape : Shape) (c : Count) (x : Take) (t : ℕ) → take_ended shape c x t ≡ (if nat_le (events_in (take_phrase shape c x)) t then taken_of x else [])
+ended_as shape c x t = grind arith
+
+if_over : (b : Bool) (x : Take) (more : List ℕ) (rest : List Take) → (b ≡ false → rest ≡ []) → more ≡ all_taken rest →
+    (if b then taken_of x else []) ++ more ≡ all_taken (if b then x ∷ rest else [])
+if_over b x more rest none e = grind arith
+
+-- the items taken are those of the takes that are over
+pub taken-over : (shape : Shape) (c : Count) (takes : List Take) (t : ℕ) → items_taken shape c takes t ≡ all_taken (takes_over shape c takes t)
+taken-over shape c [] t = refl
+taken-over shape c (x ∷ takes) t =
+    grind (arith, nat_tests, ended_as, if_over, none_over, taken-over shape (count_after shape c x) takes (t - (events_in (take_phrase shape c x))))
+
+-- takes that have all ended have taken all their items
+pub taken_all : (shape : Shape) (c : Count) (takes : List Take) (t : ℕ) → 2 * length (take_phrases shape c takes) ≤ t → items_taken shape c takes t ≡ all_taken takes
+taken_all shape c takes t l = taken-over shape c takes t ∙ ap all_taken (calls_all_over (take_phrase shape) (count_after shape) (take_phrases shape) (takes_total shape) c takes t l)
+
+pub after_is : (k : ℕ) (x : Take) → taken_after k x ≡ k + length (taken_of x)
+after_is k x = grind (arith, past_is)
+
+pub all_are : (k : ℕ) (xs : List Take) → k + length (all_taken xs) ≡ taken_in k xs
+all_are k [] = omega arith
+all_are k (x ∷ xs) = omega (arith, all_are (taken_after k x) xs, after_is k x, length-append (taken_of x) (all_taken xs))
+
+-- while one more take is under way, the takes before it are over
+pub over-under_way :
+    (shape : Shape) (wanted : ℕ) (calls more : Takes) (t : ℕ) → HasTakeMore shape wanted calls more → 2 * length (take_phrases shape first_count calls.takes) ≤ t →
+    t < 2 * length (take_program shape more) → takes_over shape first_count more.takes t ≡ calls.takes
+over-under_way shape wanted calls more t has reached under_way =
+    elim has.is_one_more [
+      | inl (x, of, more_is) ↦
+          let last : length (take_program shape more) ≡ length (take_phrases shape first_count (calls.takes ++ x ∷ [])) = grind (arith, append-nil) in
+          ap (λ (m : Takes). takes_over shape first_count m.takes t) more_is
+          ∙ calls_cut_over (take_phrase shape) (count_after shape) (take_phrases shape) (takes_total shape) first_count calls.takes x t reached (omega (arith, under_way, last))
+      | inr (seen, again, more_is) ↦
+          ap (λ (m : Takes). takes_over shape first_count m.takes t) more_is
+          ∙ calls_all_over (take_phrase shape) (count_after shape) (take_phrases shape) (takes_total shape) first_count calls.takes t reached
+    ]
+
+-- the items taken in a history, and whether a take returned Closed, are the same whichever takes its events are read as
+pub taken-are_read : TakenAreRead
+taken-are_read shape h a b p q =
+    let t : ℕ = length (subhistory C h) in
+    let program : List Made = take_program shape a in (
+      taken-over shape first_count a.takes t ∙ ap all_taken (takes_over-read shape h a b p q) ∙ sym (taken-over shape first_count b.takes t),
+      λ told.
+          (let begins = begin_each C (subhistory C h) program [] program (take_program shape b) told.1 (sym (append-nil program)) p.events q.events in
+          subst (ToldIn shape h) ((takes-are_first shape a b p.are q.are begins).1 told.0) told),
+    )

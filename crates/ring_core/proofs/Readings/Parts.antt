@@ -1,5 +1,5 @@
 -- An access of a kind, after accesses that are not of it.
-use Rattle.std.proofs.Common.{◌≡◌, List, [], ◌∷◌, ◌++◌, refl, subst}
+use Rattle.std.proofs.Common.{◌≡◌, List, [], ◌∷◌, ◌++◌, refl, subst, arith}
 use Rattle.bits_core.specs.Made.{Made}
 
 -- no access of the list is of the kind
@@ -19,12 +19,7 @@ behind Is [] ys before rest z is h e = (before, refl, e)
 behind Is (x ∷ xs) ys [] rest z is h e =
     let same : z ≡ x = cc in
     absurd (h.0 (subst Is same is))
-behind Is (x ∷ xs) ys (y ∷ before) rest z is h e =
-    let later : xs ++ ys ≡ before ++ z ∷ rest = cc in
-    let same : y ≡ x = cc in
-    let (front, front_is, left) = behind Is xs ys before rest z is h.1 later in
-    let whole : y ∷ before ≡ x ∷ (xs ++ front) = cc in
-    (front, whole, left)
+behind Is (x ∷ xs) ys (y ∷ before) rest z is h e = grind (arith, behind Is xs ys before rest z is h.1 cc)
 
 pub never : (front : List Made) (z : Made) (rest : List Made) → [] ≡ front ++ z ∷ rest → ⊥
 never [] z rest e = absurd (cc)

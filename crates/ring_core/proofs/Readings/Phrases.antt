@@ -1,13 +1,11 @@
 -- Lists of accesses that start with phrases: the phrase and what follows it are determined by the list.
 use Rattle.std.proofs.Common.{◌≡◌, ℕ, zero, suc, ◌^◌, ◌<◌, Bool, true, false, List, [], ◌∷◌, ◌++◌, length, refl, sym, ap, ◌∙◌, arith, ◌⊎◌, inl, inr, append_assoc}
 use Rattle.bits_core.specs.declared.events.Side.{Side}
-use Rattle.bits_core.specs.declared.events.Act.TheVariants.{ReadBegin, ReadEnd, WriteBegin}
 use Rattle.bits_core.specs.declared.events.Bit.{Bit}
 use Rattle.bits_core.specs.declared.events.Bit.TheVariants.{Cell}
-use Rattle.bits_core.specs.declared.events.Event.{Event}
 use Rattle.bits_core.specs.declared.shapes.Shape.{Shape}
 use Rattle.bits_core.specs.Shape.{AllFit, width_of}
-use Rattle.bits_core.specs.Made.{Made, Read, Write, begin_event, end_event, events_of}
+use Rattle.bits_core.specs.Made.{Made, Read, begin_event, end_event}
 use Rattle.register_core.specs.Row.{RowWrite, writes_in}
 use Rattle.register_core.specs.Word.{digit, digit_writes, digit_reads, word_write, word_read}
 use Rattle.register_core.specs.ScanState.{zero_reads, scan_phrase}
@@ -27,26 +25,7 @@ joined_two s t u r z = joined (s ++ t) u r z ∙ append_assoc s t (u ++ (r ++ z)
 -- ---- events and accesses
 
 pub same_made : (s : Side) (x y : Made) → begin_event s x ≡ begin_event s y → end_event s x ≡ end_event s y → x ≡ y
-same_made s (Read b v) (Read c w) e f =
-    let bits : b ≡ c = ap (λ (x : Event). x.bit) e in
-    let acts : ReadEnd v ≡ ReadEnd w = ap (λ (x : Event). x.act) f in
-    cc
-same_made s (Read b v) (Write c w) e f = let acts : ReadBegin ≡ WriteBegin w = ap (λ (x : Event). x.act) e in absurd (cc)
-same_made s (Write b v) (Read c w) e f = let acts : WriteBegin v ≡ ReadBegin = ap (λ (x : Event). x.act) e in absurd (cc)
-same_made s (Write b v) (Write c w) e f =
-    let bits : b ≡ c = ap (λ (x : Event). x.bit) e in
-    let acts : WriteBegin v ≡ WriteBegin w = ap (λ (x : Event). x.act) e in
-    cc
-
--- equal events are those of equal accesses
-pub same_accesses : (s : Side) (xs ys : List Made) → events_of s xs ≡ events_of s ys → xs ≡ ys
-same_accesses s [] [] e = refl
-same_accesses s [] (y ∷ ys) e = absurd (cc)
-same_accesses s (x ∷ xs) [] e = absurd (cc)
-same_accesses s (x ∷ xs) (y ∷ ys) e =
-    let head : x ≡ y = same_made s x y (cc) (cc) in
-    let tail : xs ≡ ys = same_accesses s xs ys (cc) in
-    cc
+same_made s x y e f = grind arith
 
 -- ---- scans
 
@@ -65,12 +44,8 @@ scan_begins bit_of (suc c) xs = (false, scan_phrase (λ i. bit_of (suc i)) c ++ 
 
 pub same_scan : (bit_of : ℕ → Bit) (a b : ℕ) (xs ys : List Made) → scan_phrase bit_of a ++ xs ≡ scan_phrase bit_of b ++ ys → (a ≡ b) × (xs ≡ ys)
 same_scan bit_of zero zero xs ys e = (refl, cc)
-same_scan bit_of zero (suc b) xs ys e =
-    let f : Read (bit_of 0) true ∷ xs ≡ Read (bit_of 0) false ∷ (scan_phrase (λ i. bit_of (suc i)) b ++ ys) = e ∙ ap (λ l. l ++ ys) (scan-front bit_of b) in
-    absurd (cc)
-same_scan bit_of (suc a) zero xs ys e =
-    let f : Read (bit_of 0) false ∷ (scan_phrase (λ i. bit_of (suc i)) a ++ xs) ≡ Read (bit_of 0) true ∷ ys = sym (ap (λ l. l ++ xs) (scan-front bit_of a)) ∙ e in
-    absurd (cc)
+same_scan bit_of zero (suc b) xs ys e = grind (arith, scan-front)
+same_scan bit_of (suc a) zero xs ys e = grind (arith, scan-front)
 same_scan bit_of (suc a) (suc b) xs ys e =
     let f : Read (bit_of 0) false ∷ (scan_phrase (λ i. bit_of (suc i)) a ++ xs) ≡ Read (bit_of 0) false ∷ (scan_phrase (λ i. bit_of (suc i)) b ++ ys) =
     sym (ap (λ l. l ++ xs) (scan-front bit_of a)) ∙ e ∙ ap (λ l. l ++ ys) (scan-front bit_of b) in
@@ -80,10 +55,7 @@ same_scan bit_of (suc a) (suc b) xs ys e =
 
 -- a scan has an access
 pub no_scan : (bit_of : ℕ → Bit) (c : ℕ) (xs : List Made) → [] ≡ scan_phrase bit_of c ++ xs → ⊥
-no_scan bit_of c xs e =
-    let begins : (v : Bool) × (rest : List Made) × (scan_phrase bit_of c ++ xs ≡ Read (bit_of 0) v ∷ rest) = scan_begins bit_of c xs in
-    let clash : [] ≡ Read (bit_of 0) begins.0 ∷ begins.1 = e ∙ begins.2 in
-    absurd (cc)
+no_scan bit_of c xs e = grind (arith, scan_begins bit_of c xs)
 
 -- ---- words
 
@@ -92,11 +64,7 @@ same_parts : {A : Type 0} → (us vs xs ys : List A) → length us ≡ length vs
 same_parts [] [] xs ys n e = (refl, e)
 same_parts [] (v ∷ vs) xs ys n e = absurd (cc)
 same_parts (u ∷ us) [] xs ys n e = absurd (cc)
-same_parts (u ∷ us) (v ∷ vs) xs ys n e =
-    let rest : (us ≡ vs) × (xs ≡ ys) = same_parts us vs xs ys (omega (arith, n)) (cc) in
-    let head : u ≡ v = cc in
-    let tail : us ≡ vs = rest.0 in
-    (cc, rest.1)
+same_parts (u ∷ us) (v ∷ vs) xs ys n e = grind (arith, same_parts us vs xs ys (omega (arith, n)) (cc))
 
 pub at_or_below : (i n : ℕ) → i < suc n → (i ≡ n) ⊎ (i < n)
 at_or_below i n l = grind arith
@@ -143,13 +111,7 @@ pub same_writes :
 same_writes cell [] [] xs ys n e = (refl, e)
 same_writes cell [] (v ∷ vs) xs ys n e = absurd (cc)
 same_writes cell (u ∷ us) [] xs ys n e = absurd (cc)
-same_writes cell (u ∷ us) (v ∷ vs) xs ys n e =
-    let rest : (us ≡ vs) × (xs ≡ ys) = same_writes cell us vs xs ys (omega (arith, n)) (cc) in
-    let bits : u.bit ≡ v.bit = cc in
-    let values : u.value ≡ v.value = cc in
-    let head : u ≡ v = same_row u v bits values in
-    let tail : us ≡ vs = rest.0 in
-    (cc, rest.1)
+same_writes cell (u ∷ us) (v ∷ vs) xs ys n e = grind (arith, same_row, same_writes cell us vs xs ys (omega (arith, n)) (cc))
 
 digits_written : (n a b : ℕ) → digit_writes a n ≡ digit_writes b n → (i : ℕ) → i < n → digit i a ≡ digit i b
 digits_written zero a b e i l = absurd (omega arith)
@@ -185,17 +147,11 @@ pub same_words_by :
     ((n x y : ℕ) (xs ys : List Made) → x < 2 ^ width_of shape → y < 2 ^ width_of shape → word n x ++ xs ≡ word n y ++ ys → (x ≡ y) × (xs ≡ ys)) →
     (n : ℕ) (xs ys : List ℕ) (left right : List Made) → AllFit shape xs → AllFit shape ys → NotFirst access left → NotFirst access right →
     words n xs ++ left ≡ words n ys ++ right → (xs ≡ ys) × (left ≡ right)
-same_words_by shape words word access none more begins same n [] [] left right f g l r e =
-    (refl, sym (ap (λ z. z ++ left) (none n)) ∙ e ∙ ap (λ z. z ++ right) (none n))
+same_words_by shape words word access none more begins same n [] [] left right f g l r e = grind arith
 same_words_by shape words word access none more begins same n [] (y ∷ ys) left right f g l r e =
     absurd (begins n y ys right (λ j d v rest is. l j d v rest (sym (ap (λ z. z ++ left) (none n)) ∙ e ∙ is)))
 same_words_by shape words word access none more begins same n (x ∷ xs) [] left right f g l r e =
     absurd (begins n x xs left (λ j d v rest is. r j d v rest (sym (ap (λ z. z ++ right) (none n)) ∙ sym e ∙ is)))
 same_words_by shape words word access none more begins same n (x ∷ xs) (y ∷ ys) left right f g l r e =
-    let parts : (z : ℕ) (zs : List ℕ) (end : List Made) → words n (z ∷ zs) ++ end ≡ word n z ++ (words (suc n) zs ++ end) =
-    λ z zs end. ap (λ w. w ++ end) (more n z zs) ∙ append_assoc (word n z) (words (suc n) zs) end in
-    let first : (x ≡ y) × (words (suc n) xs ++ left ≡ words (suc n) ys ++ right) = same n x y _ _ f.0 g.0 (sym (parts x xs left) ∙ e ∙ parts y ys right) in
-    let rest : (xs ≡ ys) × (left ≡ right) = same_words_by shape words word access none more begins same (suc n) xs ys left right f.1 g.1 l r first.1 in
-    let head : x ≡ y = first.0 in
-    let tail : xs ≡ ys = rest.0 in
-    (cc, rest.1)
+    let parts : (z : ℕ) (zs : List ℕ) (end : List Made) → words n (z ∷ zs) ++ end ≡ word n z ++ (words (suc n) zs ++ end) = grind (arith, append_assoc) in
+    grind (arith, same_words_by shape words word access none more begins same (suc n) xs ys left right f.1 g.1 l r (same n x y _ _ f.0 g.0 (sym (parts x xs left) ∙ e ∙ parts y ys right)).1)

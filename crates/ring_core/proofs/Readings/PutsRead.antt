@@ -1,38 +1,25 @@
 -- Equal events of complete calls of the producer come from equal calls.
-use Rattle.std.proofs.Common.{◌≡◌, ℕ, zero, suc, ◌%◌, ◌<◌, ◌≤◌, Bool, true, false, List, [], ◌∷◌, ◌++◌, length, refl, sym, ap, ap₂, subst, ◌∙◌, arith, append_assoc}
-use Rattle.std.proofs.lemmas.List.{append_cancel_left}
+use Rattle.std.proofs.Common.{◌≡◌, ℕ, zero, suc, ◌%◌, ◌<◌, ◌≤◌, Bool, true, false, List, [], ◌∷◌, ◌++◌, refl, ap, subst, ◌∙◌, arith, append_assoc}
 use Rattle.bits_core.specs.declared.events.Side.TheVariants.{P}
 use Rattle.bits_core.specs.declared.events.Bit.{Bit}
-use Rattle.bits_core.specs.declared.events.Bit.TheVariants.{X, Cell}
+use Rattle.bits_core.specs.declared.events.Bit.TheVariants.{Cell}
 use Rattle.bits_core.specs.declared.shapes.Shape.{Shape}
 use Rattle.bits_core.specs.Shape.{AllFit, capacity_of, modulus_of, width_of}
 use Rattle.bits_core.specs.Made.{Made, Read, Write}
 use Rattle.register_core.specs.Row.{RowWrite, writes_in}
 use Rattle.register_core.specs.Word.{digit, digit_writes, word_write}
 use Rattle.register_core.specs.ScanState.{scan_phrase, row_read_by}
-use Rattle.ring_core.specs.Counts.{LeavesRoom, LeavesRoomFor, number_past, Count, first_count, batch_phrase, IsCount}
-use Rattle.ring_core.specs.Puts.{Put, Puts, Stored, Full, stored_after, words_phrase, put_phrases, close_phrase, put_program, IsBatch, ArePuts}
-use Rattle.ring_core.specs.Readings.{PutsAreRead}
-use Rattle.ring_core.proofs.Readings.Phrases.{NotFirst, same_words_by, same_accesses, scan_begins, same_scan, same_word_write, joined_two, no_scan}
-use Rattle.ring_core.proofs.CountRow.{batch_below, first_is_count, counted_is_count, batch_first}
-
--- puts, and whether a close follows them
-abbrev puts_of : List Put → Bool → Puts
-puts_of puts closes = record { puts = puts; closes = closes }
+use Rattle.ring_core.specs.Counts.{LeavesRoom, LeavesRoomFor, Count, batch_phrase, IsCount}
+use Rattle.ring_core.specs.Puts.{Put, Stored, Full, stored_after, words_phrase, put_phrases, close_phrase, IsBatch}
+use Rattle.ring_core.proofs.Readings.Phrases.{NotFirst, same_words_by, scan_begins, same_scan, same_word_write, joined_two, no_scan}
+use Rattle.ring_core.proofs.CountRow.{batch_below, batch_first}
 
 -- a scan is not a close
 pub no_close : (a : Bool) (bit_of : ℕ → Bit) (c : ℕ) (xs : List Made) → close_phrase a ≡ scan_phrase bit_of c ++ xs → ⊥
 no_close false bit_of c xs e = no_scan bit_of c xs e
 no_close true bit_of c xs e =
     let begins : (v : Bool) × (rest : List Made) × (scan_phrase bit_of c ++ xs ≡ Read (bit_of 0) v ∷ rest) = scan_begins bit_of c xs in
-    let clash : Write X true ∷ [] ≡ Read (bit_of 0) begins.0 ∷ begins.1 = e ∙ begins.2 in
     absurd (cc)
-
-same_close : (a b : Bool) → close_phrase a ≡ close_phrase b → a ≡ b
-same_close false false e = refl
-same_close true true e = refl
-same_close false true e = absurd (cc)
-same_close true false e = absurd (cc)
 
 -- a list of puts and its close, from the first put on
 pub puts_stored :
@@ -40,9 +27,7 @@ pub puts_stored :
     put_phrases shape c (Stored seen items ∷ puts) ++ close_phrase close ≡
     scan_phrase (row_read_by P) seen ++
     (words_phrase shape c.number items ++ (batch_phrase shape P c items ++ (put_phrases shape (stored_after shape c (Stored seen items)) puts ++ close_phrase close)))
-puts_stored shape c seen items puts close =
-    joined_two (scan_phrase (row_read_by P) seen) (words_phrase shape c.number items) (batch_phrase shape P c items)
-    (put_phrases shape (stored_after shape c (Stored seen items)) puts) (close_phrase close)
+puts_stored shape c seen items puts close = grind (arith, joined_two)
 
 pub puts_full :
     (shape : Shape) (c : Count) (seen : ℕ) (puts : List Put) (close : Bool) →
@@ -98,43 +83,3 @@ pub same_words :
     (shape : Shape) (n : ℕ) (xs ys : List ℕ) (left right : List Made) → AllFit shape xs → AllFit shape ys → NoCellFirst left → NoCellFirst right →
     words_phrase shape n xs ++ left ≡ words_phrase shape n ys ++ right → (xs ≡ ys) × (left ≡ right)
 same_words shape = same_words_by shape (words_phrase shape) (λ n. word_write (width_of shape) (n % capacity_of shape)) _ (λ n. refl) (λ n x xs. refl) (words_first shape) (λ n. same_word_write (width_of shape) (n % capacity_of shape))
-
-same_puts :
-    (shape : Shape) (c : Count) (xs ys : List Put) (a b : Bool) → IsCount shape c → ArePuts shape c.number xs → ArePuts shape c.number ys →
-    put_phrases shape c xs ++ close_phrase a ≡ put_phrases shape c ys ++ close_phrase b → (xs ≡ ys) × (a ≡ b)
-same_puts shape c [] [] a b is p q e = (refl, same_close a b e)
-same_puts shape c [] (Stored v j ∷ ys) a b is p q e = absurd (no_close a (row_read_by P) v _ (e ∙ puts_stored shape c v j ys b))
-same_puts shape c [] (Full v ∷ ys) a b is p q e = absurd (no_close a (row_read_by P) v _ (e ∙ puts_full shape c v ys b))
-same_puts shape c (Stored u i ∷ xs) [] a b is p q e = absurd (no_close b (row_read_by P) u _ (sym e ∙ puts_stored shape c u i xs a))
-same_puts shape c (Full u ∷ xs) [] a b is p q e = absurd (no_close b (row_read_by P) u _ (sym e ∙ puts_full shape c u xs a))
-same_puts shape c (Stored u i ∷ xs) (Full v ∷ ys) a b is ((below, room, batch), p) ((below', none), q) e =
-    absurd (no_room shape c.number u v _ _ (some_room shape (c.number % modulus_of shape) u (length i) batch.some room) none
-    (sym (puts_stored shape c u i xs a) ∙ e ∙ puts_full shape c v ys b))
-same_puts shape c (Full u ∷ xs) (Stored v j ∷ ys) a b is ((below, none), p) ((below', room, batch), q) e =
-    absurd (no_room shape c.number v u _ _ (some_room shape (c.number % modulus_of shape) v (length j) batch.some room) none
-    (sym (puts_stored shape c v j ys b) ∙ sym e ∙ puts_full shape c u xs a))
-same_puts shape c (Full u ∷ xs) (Full v ∷ ys) a b is (here, p) (here', q) e =
-    let scans : (u ≡ v) × (put_phrases shape c xs ++ close_phrase a ≡ put_phrases shape c ys ++ close_phrase b) =
-    same_scan (row_read_by P) u v _ _ (sym (puts_full shape c u xs a) ∙ e ∙ puts_full shape c v ys b) in
-    let rest : (xs ≡ ys) × (a ≡ b) = same_puts shape c xs ys a b is p q scans.1 in
-    (cc, rest.1)
-same_puts shape c (Stored u i ∷ xs) (Stored v j ∷ ys) a b is ((below, room, batch), p) ((below', room', batch'), q) e =
-    let w : List ℕ → List Made = words_phrase shape c.number in
-    let k : List ℕ → List Made = batch_phrase shape P c in
-    let after : List ℕ → List Put → Bool → List Made = λ l zs z. put_phrases shape (stored_after shape c (Stored u l)) zs ++ close_phrase z in
-    let scans : (u ≡ v) × (w i ++ (k i ++ after i xs a) ≡ w j ++ (k j ++ after j ys b)) =
-    same_scan (row_read_by P) u v _ _ (sym (puts_stored shape c u i xs a) ∙ e ∙ puts_stored shape c v j ys b) in
-    let words : (i ≡ j) × (k i ++ after i xs a ≡ k j ++ after j ys b) =
-    same_words shape c.number i j (k i ++ after i xs a) (k j ++ after j ys b) batch.fit batch'.fit
-    (count_first shape c i (after i xs a) is batch) (count_first shape c j (after j ys b) is batch') scans.1 in
-    let items : i ≡ j = words.0 in
-    let same : k i ++ after i xs a ≡ k i ++ after i ys b = words.1 ∙ ap (λ (l : List ℕ). k l ++ after l ys b) (sym items) in
-    let are : ArePuts shape (number_past c.number i) ys = subst (λ (l : List ℕ). ArePuts shape (number_past c.number l) ys) (sym items) q in
-    let rest : (xs ≡ ys) × (a ≡ b) =
-    same_puts shape (stored_after shape c (Stored u i)) xs ys a b (counted_is_count shape c i) p are (append_cancel_left (k i) (after i xs a) (after i ys b) same) in
-    (cc, rest.1)
-
-pub puts-are_read : PutsAreRead
-puts-are_read shape a b p q e =
-    let (puts, closes) = same_puts shape first_count a.puts b.puts a.closes b.closes (first_is_count shape) p q (same_accesses P (put_program shape a) (put_program shape b) e) in
-    ap₂ puts_of puts closes

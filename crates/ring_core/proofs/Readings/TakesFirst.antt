@@ -1,5 +1,5 @@
 -- Takes and their end, from the first take on.
-use Rattle.std.proofs.Common.{◌≡◌, ℕ, true, false, List, [], ◌∷◌, ◌++◌, sym, ap, append-nil}
+use Rattle.std.proofs.Common.{◌≡◌, ℕ, true, false, List, [], ◌∷◌, ◌++◌, sym, ap, append-nil, arith}
 use Rattle.bits_core.specs.declared.events.Side.TheVariants.{C}
 use Rattle.bits_core.specs.declared.events.Bit.TheVariants.{X}
 use Rattle.bits_core.specs.declared.shapes.Shape.{Shape}
@@ -26,8 +26,7 @@ pub after_first :
     (shape : Shape) (c : Count) (seen again : ℕ) (items : List ℕ) (takes : List Take) (end : End) →
     calls_from shape c (ItemAfterClose seen again items ∷ takes) end ≡
     scan seen ++ (Read X true ∷ (scan again ++ (items_phrase shape c items ++ calls_from shape (count_after shape c (ItemAfterClose seen again items)) takes end)))
-after_first shape c seen again items takes end =
-    joined_two (scan seen) (Read X true ∷ scan again) (items_phrase shape c items) (take_phrases shape (count_after shape c (ItemAfterClose seen again items)) takes) (end_phrase end)
+after_first shape c seen again items takes end = grind (arith, joined_two)
 
 pub empty_first :
     (shape : Shape) (c : Count) (seen : ℕ) (takes : List Take) (end : End) →

@@ -1,5 +1,5 @@
 -- Equal events of complete calls of the consumer come from equal calls.
-use Rattle.std.proofs.Common.{◌≡◌, ℕ, zero, suc, ◌%◌, ◌<◌, ◌≤◌, true, false, List, [], ◌∷◌, ◌++◌, refl, sym, ap, ap₂, subst, ◌∙◌, arith, append_assoc}
+use Rattle.std.proofs.Common.{◌≡◌, ℕ, zero, suc, ◌%◌, ◌<◌, ◌≤◌, true, false, List, [], ◌∷◌, ◌++◌, length, refl, sym, ap, ap₂, subst, ◌∙◌, arith, append_assoc, append-nil, length-append}
 use Rattle.std.proofs.lemmas.List.{append_cancel_left}
 use Rattle.bits_core.specs.declared.events.Side.TheVariants.{C}
 use Rattle.bits_core.specs.declared.events.Bit.TheVariants.{X, Cell}
@@ -8,16 +8,14 @@ use Rattle.bits_core.specs.Shape.{AllFit, capacity_of, modulus_of, width_of}
 use Rattle.bits_core.specs.Made.{Made, Read}
 use Rattle.register_core.specs.Word.{digit, digit_reads, word_read}
 use Rattle.register_core.specs.ScanState.{row_read_by}
-use Rattle.ring_core.specs.Counts.{ShowsItem, number_past, Count, first_count, IsCount, batch_phrase}
-use Rattle.ring_core.specs.Takes.{Take, Takes, End, Item, ItemAfterClose, Empty, Open, Closed, count_after, words_read, items_phrase, take_program, SeesItems, SeesNone, IsTakeBatch, AreTakes}
-use Rattle.ring_core.specs.Readings.{TakesAreRead}
-use Rattle.ring_core.proofs.Readings.Phrases.{NotFirst, same_words_by, same_accesses, no_scan, same_scan, same_word_read}
+use Rattle.ring_core.specs.Counts.{ShowsItem, Count, first_count, IsCount, batch_phrase}
+use Rattle.ring_core.specs.Takes.{Take, Takes, End, Item, ItemAfterClose, Empty, Open, Closed, count_after, taken_count, words_read, items_phrase, take_phrase, take_phrases, end_phrase, take_program, SeesItems, SeesNone, IsTakeBatch, IsTake, AreTakes}
+use Rattle.ring_core.specs.Readings.{TakesAreRead, TakesAreFirst}
+use Rattle.ring_core.specs.Items.{Tells}
+use Rattle.ring_core.proofs.Readings.Phrases.{NotFirst, same_words_by, no_scan, same_scan, same_word_read, joined}
 use Rattle.ring_core.proofs.CountRow.{take_batch_below, batch_first, first_is_count, counted_is_count}
-use Rattle.ring_core.proofs.Readings.TakesFirst.{scan, calls_from, item_first, after_first, empty_first, closed_first}
-
--- takes and their end
-abbrev takes_of : List Take → End → Takes
-takes_of takes end = record { takes = takes; end = end }
+use Rattle.ring_core.proofs.Readings.TakesFirst.{scan, calls_from, closed_first}
+use Rattle.ring_core.proofs.Readings.Cuts.{begin_each_other, made_first}
 
 -- what distinguishes the takes: a count that shows items shows them, and the close bit is 0 or 1
 pub item_or_none :
@@ -36,7 +34,6 @@ pub same_twice :
     (c ≡ c') × (scan d ++ xs ≡ scan d' ++ ys)
 same_twice c d c' d' xs ys e =
     let scans : (c ≡ c') × (Read X true ∷ (scan d ++ xs) ≡ Read X true ∷ (scan d' ++ ys)) = same_scan (row_read_by C) c c' (Read X true ∷ (scan d ++ xs)) (Read X true ∷ (scan d' ++ ys)) e in
-    let rest : Read X true ∷ (scan d ++ xs) ≡ Read X true ∷ (scan d' ++ ys) = scans.1 in
     (scans.0, cc)
 
 pub after_or_closed :
@@ -92,84 +89,139 @@ same_items_phrase shape c is i j xs ys batch batch' e =
     let same : k i ++ xs ≡ k i ++ ys = words.1 ∙ ap (λ (l : List ℕ). k l ++ ys) (sym items) in
     (items, append_cancel_left (k i) xs ys same)
 
-same_takes :
-    (shape : Shape) (z : Count) (xs ys : List Take) (a b : End) → IsCount shape z → AreTakes shape z.number xs a → AreTakes shape z.number ys b →
-    calls_from shape z xs a ≡ calls_from shape z ys b → (xs ≡ ys) × (a ≡ b)
-same_takes shape z [] [] Open Open is p q e = (refl, refl)
-same_takes shape z [] [] Open (Closed d d') is p q e = absurd (no_scan (row_read_by C) d _ (e ∙ closed_first shape z d d'))
-same_takes shape z [] (Item d j ∷ ys) Open b is p q e = absurd (no_scan (row_read_by C) d _ (e ∙ item_first shape z d j ys b))
-same_takes shape z [] (ItemAfterClose d d' j ∷ ys) Open b is p q e = absurd (no_scan (row_read_by C) d _ (e ∙ after_first shape z d d' j ys b))
-same_takes shape z [] (Empty d ∷ ys) Open b is p q e = absurd (no_scan (row_read_by C) d _ (e ∙ empty_first shape z d ys b))
-same_takes shape z [] [] (Closed c c') Open is p q e = absurd (no_scan (row_read_by C) c _ (sym e ∙ closed_first shape z c c'))
-same_takes shape z (Item c i ∷ xs) [] a Open is p q e = absurd (no_scan (row_read_by C) c _ (sym e ∙ item_first shape z c i xs a))
-same_takes shape z (ItemAfterClose c c' i ∷ xs) [] a Open is p q e = absurd (no_scan (row_read_by C) c _ (sym e ∙ after_first shape z c c' i xs a))
-same_takes shape z (Empty c ∷ xs) [] a Open is p q e = absurd (no_scan (row_read_by C) c _ (sym e ∙ empty_first shape z c xs a))
-same_takes shape z [] [] (Closed c c') (Closed d d') is p q e =
-    let twice : (c ≡ d) × (scan c' ++ [] ≡ scan d' ++ []) = same_twice c c' d d' [] [] (sym (closed_first shape z c c') ∙ e ∙ closed_first shape z d d') in
-    let first : c ≡ d = twice.0 in
-    let second : c' ≡ d' = (same_scan (row_read_by C) c' d' [] [] twice.1).0 in
-    (refl, cc)
-same_takes shape z [] (Item d j ∷ ys) (Closed c c') b is (none, none') ((sees, fits), q) e =
-    absurd (item_or_none shape z.number d c _ _ _ fits.some sees none (sym (item_first shape z d j ys b) ∙ sym e ∙ closed_first shape z c c'))
-same_takes shape z [] (ItemAfterClose d d' j ∷ ys) (Closed c c') b is (none, none') ((other, sees, fits), q) e =
-    absurd (after_or_closed shape z.number d d' c c' _ _ _ fits.some sees none' (sym (after_first shape z d d' j ys b) ∙ sym e ∙ closed_first shape z c c'))
-same_takes shape z [] (Empty d ∷ ys) (Closed c c') b is p q e =
-    absurd (open_or_closed d c _ _ (sym (empty_first shape z d ys b) ∙ sym e ∙ closed_first shape z c c'))
-same_takes shape z (Item c i ∷ xs) [] a (Closed d d') is ((sees, fits), p) (none, none') e =
-    absurd (item_or_none shape z.number c d _ _ _ fits.some sees none (sym (item_first shape z c i xs a) ∙ e ∙ closed_first shape z d d'))
-same_takes shape z (ItemAfterClose c c' i ∷ xs) [] a (Closed d d') is ((other, sees, fits), p) (none, none') e =
-    absurd (after_or_closed shape z.number c c' d d' _ _ _ fits.some sees none' (sym (after_first shape z c c' i xs a) ∙ e ∙ closed_first shape z d d'))
-same_takes shape z (Empty c ∷ xs) [] a (Closed d d') is p q e =
-    absurd (open_or_closed c d _ _ (sym (empty_first shape z c xs a) ∙ e ∙ closed_first shape z d d'))
-same_takes shape z (Item c i ∷ xs) (ItemAfterClose d d' j ∷ ys) a b is ((sees, fits), p) ((none, sees', fits'), q) e =
-    absurd (item_or_none shape z.number c d _ _ _ fits.some sees none (sym (item_first shape z c i xs a) ∙ e ∙ after_first shape z d d' j ys b))
-same_takes shape z (Item c i ∷ xs) (Empty d ∷ ys) a b is ((sees, fits), p) (none, q) e =
-    absurd (item_or_none shape z.number c d _ _ _ fits.some sees none (sym (item_first shape z c i xs a) ∙ e ∙ empty_first shape z d ys b))
-same_takes shape z (ItemAfterClose c c' i ∷ xs) (Item d j ∷ ys) a b is ((none, sees', fits'), p) ((sees, fits), q) e =
-    absurd (item_or_none shape z.number d c _ _ _ fits.some sees none (sym (item_first shape z d j ys b) ∙ sym e ∙ after_first shape z c c' i xs a))
-same_takes shape z (ItemAfterClose c c' i ∷ xs) (Empty d ∷ ys) a b is p q e =
-    absurd (open_or_closed d c _ _ (sym (empty_first shape z d ys b) ∙ sym e ∙ after_first shape z c c' i xs a))
-same_takes shape z (Empty c ∷ xs) (Item d j ∷ ys) a b is (none, p) ((sees, fits), q) e =
-    absurd (item_or_none shape z.number d c _ _ _ fits.some sees none (sym (item_first shape z d j ys b) ∙ sym e ∙ empty_first shape z c xs a))
-same_takes shape z (Empty c ∷ xs) (ItemAfterClose d d' j ∷ ys) a b is p q e =
-    absurd (open_or_closed c d _ _ (sym (empty_first shape z c xs a) ∙ e ∙ after_first shape z d d' j ys b))
-same_takes shape z (Item c i ∷ xs) (Item d j ∷ ys) a b is ((sees, batch), p) ((sees', batch'), q) e =
-    let left : List Made = calls_from shape (count_after shape z (Item c i)) xs a in
-    let right : List Made = calls_from shape (count_after shape z (Item d j)) ys b in
-    let scans : (c ≡ d) × (items_phrase shape z i ++ left ≡ items_phrase shape z j ++ right) =
-    same_scan (row_read_by C) c d _ _ (sym (item_first shape z c i xs a) ∙ e ∙ item_first shape z d j ys b) in
-    let items : (i ≡ j) × (left ≡ right) = same_items_phrase shape z is i j left right batch batch' scans.1 in
-    let item : i ≡ j = items.0 in
-    let are : AreTakes shape (number_past z.number i) ys b = subst (λ (l : List ℕ). AreTakes shape (number_past z.number l) ys b) (sym item) q in
-    let same : left ≡ calls_from shape (count_after shape z (Item c i)) ys b = items.1 ∙ ap (λ (l : List ℕ). calls_from shape (count_after shape z (Item d l)) ys b) (sym item) in
-    let rest : (xs ≡ ys) × (a ≡ b) = same_takes shape (count_after shape z (Item c i)) xs ys a b (counted_is_count shape z i) p are same in
-    (cc, rest.1)
-same_takes shape z (ItemAfterClose c c' i ∷ xs) (ItemAfterClose d d' j ∷ ys) a b is ((none, sees, batch), p) ((none', sees', batch'), q) e =
-    let left : List Made = calls_from shape (count_after shape z (ItemAfterClose c c' i)) xs a in
-    let right : List Made = calls_from shape (count_after shape z (ItemAfterClose d d' j)) ys b in
-    let twice : (c ≡ d) × (scan c' ++ (items_phrase shape z i ++ left) ≡ scan d' ++ (items_phrase shape z j ++ right)) =
-    same_twice c c' d d' _ _ (sym (after_first shape z c c' i xs a) ∙ e ∙ after_first shape z d d' j ys b) in
-    let scans : (c' ≡ d') × (items_phrase shape z i ++ left ≡ items_phrase shape z j ++ right) = same_scan (row_read_by C) c' d' _ _ twice.1 in
-    let items : (i ≡ j) × (left ≡ right) = same_items_phrase shape z is i j left right batch batch' scans.1 in
-    let item : i ≡ j = items.0 in
-    let are : AreTakes shape (number_past z.number i) ys b = subst (λ (l : List ℕ). AreTakes shape (number_past z.number l) ys b) (sym item) q in
-    let same : left ≡ calls_from shape (count_after shape z (ItemAfterClose c c' i)) ys b = items.1 ∙ ap (λ (l : List ℕ). calls_from shape (count_after shape z (ItemAfterClose d d' l)) ys b) (sym item) in
-    let rest : (xs ≡ ys) × (a ≡ b) = same_takes shape (count_after shape z (ItemAfterClose c c' i)) xs ys a b (counted_is_count shape z i) p are same in
-    let seen : c ≡ d = twice.0 in
-    let again : c' ≡ d' = scans.0 in
-    let more : xs ≡ ys = rest.0 in
-    (cc, rest.1)
-same_takes shape z (Empty c ∷ xs) (Empty d ∷ ys) a b is (none, p) (none', q) e =
-    let left : List Made = calls_from shape z xs a in
-    let right : List Made = calls_from shape z ys b in
-    let scans : (c ≡ d) × (Read X false ∷ left ≡ Read X false ∷ right) =
-    same_scan (row_read_by C) c d _ _ (sym (empty_first shape z c xs a) ∙ e ∙ empty_first shape z d ys b) in
-    let same : Read X false ∷ left ≡ Read X false ∷ right = scans.1 in
-    let tail : left ≡ right = cc in
-    let rest : (xs ≡ ys) × (a ≡ b) = same_takes shape z xs ys a b is p q tail in
-    (cc, rest.1)
+-- ---- calls that begin alike
 
+-- a take from its scan on
+scans_first : (shape : Shape) (k : Count) (x : Take) → (c : ℕ) × (rest : List Made) × (take_phrase shape k x ≡ scan c ++ rest)
+scans_first shape k (Item seen items) = (seen, items_phrase shape k items, refl)
+scans_first shape k (ItemAfterClose seen again items) =
+    (seen, Read X true ∷ (scan again ++ items_phrase shape k items), append_assoc (scan seen) (Read X true ∷ scan again) (items_phrase shape k items))
+scans_first shape k (Empty seen) = (seen, Read X false ∷ [], refl)
+
+-- a take has an access
+pub take_is_long : (shape : Shape) (k : Count) (x : Take) → 0 < length (take_phrase shape k x)
+take_is_long shape k x = grind (arith, scans_first, length-append)
+
+-- calls from the first take on
+pub from_take :
+    (shape : Shape) (k : Count) (x : Take) (takes : List Take) (end : End) →
+    calls_from shape k (x ∷ takes) end ≡ take_phrase shape k x ++ calls_from shape (count_after shape k x) takes end
+from_take shape k x takes end = append_assoc (take_phrase shape k x) (take_phrases shape (count_after shape k x) takes) (end_phrase end)
+
+-- the bits of the count after a take are those of a count
+after_is_count : (shape : Shape) (k : Count) (x : Take) → IsCount shape k → IsCount shape (count_after shape k x)
+after_is_count shape k (Item seen items) is = counted_is_count shape k items
+after_is_count shape k (ItemAfterClose seen again items) is = counted_is_count shape k items
+after_is_count shape k (Empty seen) is = is
+
+-- the accesses of a take, or of one that returns Closed, and what follows them, from the scan on
+item_on :
+    (shape : Shape) (k : Count) (seen : ℕ) (items : List ℕ) (zs : List Made) →
+    take_phrase shape k (Item seen items) ++ zs ≡ scan seen ++ (items_phrase shape k items ++ zs)
+item_on shape k seen items zs = append_assoc (scan seen) (items_phrase shape k items) zs
+
+after_on :
+    (shape : Shape) (k : Count) (seen again : ℕ) (items : List ℕ) (zs : List Made) →
+    take_phrase shape k (ItemAfterClose seen again items) ++ zs ≡ scan seen ++ (Read X true ∷ (scan again ++ (items_phrase shape k items ++ zs)))
+after_on shape k seen again items zs = joined (scan seen) (Read X true ∷ scan again) (items_phrase shape k items) zs
+
+empty_on : (shape : Shape) (k : Count) (seen : ℕ) (zs : List Made) → take_phrase shape k (Empty seen) ++ zs ≡ scan seen ++ (Read X false ∷ zs)
+empty_on shape k seen zs = append_assoc (scan seen) (Read X false ∷ []) zs
+
+closed_on :
+    (shape : Shape) (k : Count) (seen again : ℕ) (zs : List Made) →
+    calls_from shape k [] (Closed seen again) ++ zs ≡ scan seen ++ (Read X true ∷ (scan again ++ zs))
+closed_on shape k seen again zs = append_assoc (scan seen) (Read X true ∷ scan again) zs
+
+pub same_calls : (a b : Takes) → a.takes ≡ b.takes → a.end ≡ b.end → a ≡ b
+same_calls a b p q = ap₂ (λ (x : List Take) (y : End). record { takes = x; end = y }) p q
+
+-- a take is not one that returns Closed
+never_end :
+    (shape : Shape) (k : Count) (x : Take) (d d' : ℕ) (xs ys : List Made) → IsTake shape k.number x → SeesNone shape k.number d → SeesNone shape k.number d' →
+    take_phrase shape k x ++ xs ≡ end_phrase (Closed d d') ++ ys → ⊥
+never_end shape k (Item c i) d d' xs ys (sees, fits) none none' e =
+    item_or_none shape k.number c d _ _ _ fits.some sees none (sym (item_on shape k c i xs) ∙ e ∙ closed_on shape k d d' ys)
+never_end shape k (ItemAfterClose c c' i) d d' xs ys (before, sees, fits) none none' e =
+    after_or_closed shape k.number c c' d d' _ _ _ fits.some sees none' (sym (after_on shape k c c' i xs) ∙ e ∙ closed_on shape k d d' ys)
+never_end shape k (Empty c) d d' xs ys p none none' e = open_or_closed c d _ _ (sym (empty_on shape k c xs) ∙ e ∙ closed_on shape k d d' ys)
+
+-- accesses that begin with those of a take determine it
+same_take :
+    (shape : Shape) (k : Count) → IsCount shape k → (x y : Take) (xs ys : List Made) → IsTake shape k.number x → IsTake shape k.number y →
+    take_phrase shape k x ++ xs ≡ take_phrase shape k y ++ ys → x ≡ y
+same_take shape k is (Item c i) (Item d j) xs ys (sees, fits) (sees', fits') e =
+    let scans = same_scan (row_read_by C) c d _ _ (sym (item_on shape k c i xs) ∙ e ∙ item_on shape k d j ys) in
+    ap₂ Item scans.0 (same_items_phrase shape k is i j xs ys fits fits' scans.1).0
+same_take shape k is (ItemAfterClose c c' i) (ItemAfterClose d d' j) xs ys (none, sees, fits) (none', sees', fits') e =
+    let twice = same_twice c c' d d' _ _ (sym (after_on shape k c c' i xs) ∙ e ∙ after_on shape k d d' j ys) in
+    let scans = same_scan (row_read_by C) c' d' _ _ twice.1 in
+    grind (arith, same_items_phrase)
+same_take shape k is (Empty c) (Empty d) xs ys p q e = ap Empty (same_scan (row_read_by C) c d _ _ (sym (empty_on shape k c xs) ∙ e ∙ empty_on shape k d ys)).0
+same_take shape k is (Item c i) (ItemAfterClose d d' j) xs ys (sees, fits) (none, sees', fits') e =
+    absurd (item_or_none shape k.number c d _ _ _ fits.some sees none (sym (item_on shape k c i xs) ∙ e ∙ after_on shape k d d' j ys))
+same_take shape k is (Item c i) (Empty d) xs ys (sees, fits) none e =
+    absurd (item_or_none shape k.number c d _ _ _ fits.some sees none (sym (item_on shape k c i xs) ∙ e ∙ empty_on shape k d ys))
+same_take shape k is (ItemAfterClose c c' i) (Empty d) xs ys p q e =
+    absurd (open_or_closed d c _ _ (sym (empty_on shape k d ys) ∙ sym e ∙ after_on shape k c c' i xs))
+same_take shape k is (ItemAfterClose c c' i) (Item d j) xs ys (none, sees', fits') (sees, fits) e =
+    absurd (item_or_none shape k.number d c _ _ _ fits.some sees none (sym (item_on shape k d j ys) ∙ sym e ∙ after_on shape k c c' i xs))
+same_take shape k is (Empty c) (Item d j) xs ys none (sees, fits) e =
+    absurd (item_or_none shape k.number d c _ _ _ fits.some sees none (sym (item_on shape k d j ys) ∙ sym e ∙ empty_on shape k c xs))
+same_take shape k is (Empty c) (ItemAfterClose d d' j) xs ys p q e =
+    absurd (open_or_closed c d _ _ (sym (empty_on shape k c xs) ∙ e ∙ after_on shape k d d' j ys))
+
+-- takes whose accesses begin with those of a take begin with that take
+same_first :
+    (shape : Shape) (k : Count) (is : IsCount shape k) (x : Take) (ys : List Take) (b : End) (zs : List Made) → IsTake shape k.number x → AreTakes shape k.number ys b →
+    take_phrase shape k x ++ zs ≡ calls_from shape k ys b → (more : List Take) × (ys ≡ x ∷ more)
+same_first shape k is x [] Open zs p q e = absurd (omega (arith, ap length e, length-append (take_phrase shape k x) zs, take_is_long shape k x))
+same_first shape k is x [] (Closed d d') zs p q e = absurd (never_end shape k x d d' zs [] p q.0 q.1 (e ∙ sym (append-nil (end_phrase (Closed d d')))))
+same_first shape k is x (y ∷ ys) b zs p q e =
+    (ys, ap (λ z. z ∷ ys) (sym (same_take shape k is x y zs (calls_from shape (count_after shape k y) ys b) p q.0 (e ∙ from_take shape k y ys b))))
+
+-- takes whose accesses begin with those of complete takes begin with these, and then continue from their count
+pub first_takes :
+    (shape : Shape) (k : Count) (is : IsCount shape k) (xs ys : List Take) (a b : End) (zs : List Made) → AreTakes shape k.number xs a → AreTakes shape k.number ys b →
+    take_phrases shape k xs ++ zs ≡ calls_from shape k ys b →
+    (more : List Take) × (ys ≡ xs ++ more) × (zs ≡ calls_from shape (taken_count shape k xs) more b) ×
+    AreTakes shape (taken_count shape k xs).number [] a × AreTakes shape (taken_count shape k xs).number more b
+first_takes shape k is [] ys a b zs p q e = (ys, refl, e, p, q)
+first_takes shape k is (x ∷ xs) ys a b zs p q e =
+    let m : Count = count_after shape k x in
+    let phrase : List Made = take_phrase shape k x in
+    let tail : List Made = take_phrases shape m xs ++ zs in
+    let parts : phrase ++ tail ≡ calls_from shape k ys b = sym (append_assoc phrase (take_phrases shape m xs) zs) ∙ e in
+    let (rest, same) = same_first shape k is x ys b tail p.0 q parts in
+    let are : AreTakes shape m.number rest b = (subst (λ l. AreTakes shape k.number l b) same q).1 in
+    let whole : phrase ++ tail ≡ phrase ++ calls_from shape m rest b = parts ∙ ap (λ l. calls_from shape k l b) same ∙ from_take shape k x rest b in
+    let (more, f, later, last, all) =
+    first_takes shape m (after_is_count shape k x is) xs rest a b zs p.1 are (append_cancel_left phrase tail (calls_from shape m rest b) whole) in
+    (more, same ∙ ap (λ l. x ∷ l) f, later, last, all)
+
+-- if a take that returns Closed comes next, it is the only one
+told_calls :
+    (shape : Shape) (k : Count) (a b : Takes) (end : End) (more : List Take) (zs : List Made) → a.end ≡ end → Tells end → b.takes ≡ a.takes ++ more →
+    AreTakes shape k.number [] end → AreTakes shape k.number more b.end → end_phrase end ++ zs ≡ calls_from shape k more b.end → a ≡ b
+told_calls shape k a b Open more zs is told f p q e = absurd told
+told_calls shape k a b (Closed c c') (x ∷ more) zs is told f (none, none') q e = grind (arith, never_end, from_take)
+told_calls shape k a b (Closed c c') [] zs is told f (none, none') q e = by_end b.end refl e
+  where
+    by_end : (end : End) → b.end ≡ end → end_phrase (Closed c c') ++ zs ≡ calls_from shape k [] end → a ≡ b
+    by_end Open ends e = absurd (no_scan (row_read_by C) c _ (sym e ∙ closed_on shape k c c' zs))
+    by_end (Closed d d') ends e =
+        let twice = same_twice c c' d d' zs [] (sym (closed_on shape k c c' zs) ∙ e ∙ closed_first shape k d d') in
+        let again = same_scan (row_read_by C) c' d' zs [] twice.1 in
+        same_calls a b (sym (f ∙ append-nil a.takes)) (is ∙ ap₂ Closed twice.0 again.0 ∙ sym ends)
+
+pub takes-are_first : TakesAreFirst
+takes-are_first shape a b p q begins =
+    let (rest, e) = made_first C (take_program shape a) (take_program shape b) begins in
+    let (more, f, later, last, all) =
+    first_takes shape first_count (first_is_count shape) a.takes b.takes a.end b.end (end_phrase a.end ++ rest) p q
+    (sym (append_assoc (take_phrases shape first_count a.takes) (end_phrase a.end) rest) ∙ e) in
+    ((more, f), λ told. told_calls shape (taken_count shape first_count a.takes) a b a.end more rest refl told f last all later)
+
+-- calls that begin with each other are the same
 pub takes-are_read : TakesAreRead
-takes-are_read shape a b p q e =
-    let (takes, end) = same_takes shape first_count a.takes b.takes a.end b.end (first_is_count shape) p q (same_accesses C (take_program shape a) (take_program shape b) e) in
-    ap₂ takes_of takes end
+takes-are_read shape a b p q e = grind (arith, takes-are_first, append-nil, begin_each_other, same_calls)

@@ -1,32 +1,27 @@
 -- What one of a side's own events records of its calls.
-use Rattle.std.proofs.Common.{◌≡◌, inl, inr, ℕ, suc, ◌+◌, ◌-◌, ◌*◌, ◌<◌, ◌≤◌, Bool, true, false, List, [], ◌∷◌, ◌++◌, length, refl, sym, ap, subst, ◌∙◌, arith, length-append}
-use Rattle.queue_calls.specs.Calls.{Event, PutBegin, CloseBegin, CloseEnd, TakeBegin, TakeClosed}
-use Rattle.bits_core.specs.declared.events.Side.TheVariants.{P, C}
+use Rattle.std.proofs.Common.{◌≡◌, ℕ, suc, ◌+◌, ◌-◌, ◌*◌, ◌<◌, ◌≤◌, Bool, true, false, List, [], ◌∷◌, length, sym, subst, arith, length-append}
+use Rattle.queue_calls.specs.Calls.{Event, PutBegin, CloseBegin, CloseEnd, TakeBegin, TakeEnd, Shut}
+use Rattle.bits_core.specs.declared.events.Side.TheVariants.{C}
 use Rattle.bits_core.specs.declared.events.Bit.TheVariants.{X}
 use Rattle.bits_core.specs.declared.shapes.Shape.{Shape}
-use Rattle.bits_core.specs.Made.{Made, Read}
+use Rattle.bits_core.specs.Made.{Read}
 use Rattle.register_core.specs.ScanState.{scan_phrase, row_read_by}
-use Rattle.ring_core.specs.Counts.{Count, first_count, batch_phrase}
-use Rattle.ring_core.specs.Items as items
+use Rattle.ring_core.specs.Counts.{Count, first_count}
 use Rattle.ring_core.specs.Items.{events_in}
 use Rattle.ring_core.specs.Over.{puts_over, takes_over}
-use Rattle.ring_core.specs.Puts.{Put, Stored, Full, Puts, close_phrase, put_phrase, put_phrases, put_program, stored_after, words_phrase}
+use Rattle.ring_core.specs.Puts.{Put, Puts, close_phrase, put_phrase, put_phrases, put_program, stored_after}
 use Rattle.ring_core.specs.Recorded.{put_answer, put_told, take_answer, take_told, told_or_behind}
 use Rattle.ring_core.specs.RecordedByOne.{events_of_puts, events_of_takes, PutTells, PutsTellByOne, TakeTells, TakesTellByOne}
-use Rattle.ring_core.specs.Takes.{Take, Item, ItemAfterClose, Empty, End, Open, Closed, Takes, end_phrase, items_phrase, take_phrase, take_phrases, take_program, count_after}
+use Rattle.ring_core.specs.Takes.{Take, End, Open, Closed, Takes, end_phrase, take_phrase, take_phrases, take_program, count_after}
 use Rattle.ring_core.proofs.Machines.Lengths.{length-scan}
 use Rattle.ring_core.proofs.Readings.Over.{puts_total, takes_total}
-use Rattle.ring_core.proofs.Recorded.TellsByOne.{IsFirst, IsBetween, IsLast, IsBehind, place, first_told, between_told, last_told, told, Told, tells_so}
+use Rattle.ring_core.proofs.Recorded.TellsByOne.{place, first_told, between_told, last_told, told, Told, tells_so}
 
 -- ---- puts
 
 -- a put has at least two events
 put_long : (shape : Shape) (c : Count) (x : Put) → 2 ≤ events_in (put_phrase shape c x)
-put_long shape c (Stored seen items) =
-    let scan : List Made = scan_phrase (row_read_by P) seen in
-    let words : List Made = words_phrase shape c.number items in
-    omega (arith, length-append (scan ++ words) (batch_phrase shape P c items), length-append scan words, length-scan (row_read_by P) seen)
-put_long shape c (Full seen) = omega (arith, length-scan (row_read_by P) seen)
+put_long shape c x = grind (arith, length-append, length-scan)
 
 -- what an event after all puts records
 abbrev put_last : Bool → ℕ → List Event
@@ -42,11 +37,9 @@ put_begin offers j = PutBegin (offers j)
 put_told_is :
     (shape : Shape) (offers : ℕ → List ℕ) (j : ℕ) (c : Count) (puts : List Put) (closes : Bool) (i : ℕ) →
     put_told shape offers j c puts closes i ≡ told (put_events shape) (stored_after shape) (put_begin offers) put_answer (put_last closes) j c puts i
-put_told_is shape offers j c [] false i = refl
-put_told_is shape offers j c [] true i = refl
+put_told_is shape offers j c [] closes i = grind arith
 put_told_is shape offers j c (x ∷ puts) closes i =
-    let long : ℕ = put_events shape c x in
-    ap (λ l. told_or_behind long (put_begin offers j) (put_answer x) i l) (put_told_is shape offers (suc j) (stored_after shape c x) puts closes (i - long))
+    grind (arith, put_told_is shape offers (suc j) (stored_after shape c x) puts closes (i - (put_events shape c x)))
 
 -- what an event records of the puts, for any calls
 abbrev PutsTell : Shape → (ℕ → List ℕ) → Puts → ℕ → List Put → List Put → List Event → Type 0
@@ -61,32 +54,13 @@ close_tells :
     (shape : Shape) (offers : ℕ → List ℕ) (calls : Puts) (i : ℕ) (before after : List Put) (told : List Event) (closes : Bool) → calls.closes ≡ closes →
     i < events_in (put_program shape calls) → after ≡ before → before ≡ calls.puts → events_of_puts shape before ≤ i → events_of_puts shape before ≡ events_of_puts shape calls.puts →
     told ≡ put_last closes (i - events_of_puts shape before) → PutTells shape offers calls i before after told
-close_tells shape offers calls i before after told false e l same all past whole is =
-    let none : length (close_phrase calls.closes) ≡ 0 = ap (λ b. length (close_phrase b)) e in
-    absurd (omega (arith, l, past, none, whole, put_program_is shape calls))
-close_tells shape offers calls i before after told true e l same all past whole is =
-    let first : ℕ = events_of_puts shape before in
-    let two : length (close_phrase calls.closes) ≡ 1 = ap (λ b. length (close_phrase b)) e in
-    elim (place 2 (i - first) (omega arith)) [
-      | IsFirst at ↦ inl (same, omega (arith, past, at), inr (all, e, is ∙ first_told 2 CloseBegin CloseEnd (i - first) [] (omega arith) at))
-      | IsBetween some more ↦ absurd (omega (arith, some, more))
-      | IsLast some at ↦ inr (inr (inl (same, all, e, omega (arith, some), omega (arith, at, two, whole, put_program_is shape calls), is ∙ last_told 2 CloseBegin CloseEnd (i - first) [] some at)))
-      | IsBehind more ↦ absurd (omega (arith, more, l, past, two, whole, put_program_is shape calls))
-    ]
+close_tells shape offers calls i before after told closes e l same all past whole is = grind (arith, put_program_is, place, first_told, last_told)
 
 -- the same in terms of the puts
 in_puts :
     (shape : Shape) (offers : ℕ → List ℕ) (calls : Puts) (i : ℕ) (before after : List Put) (told : List Event) → i < events_in (put_program shape calls) →
     PutsTell shape offers calls i before after told → PutTells shape offers calls i before after told
-in_puts shape offers calls i before after told l (inl (same, at, fewer, is)) =
-    let number : 0 + length before ≡ length before = omega arith in
-    inl (same, at, inl (fewer, is ∙ ap (λ n. PutBegin (offers n) ∷ []) number))
-in_puts shape offers calls i before after told l (inr (inl ends)) = inr (inl ends)
-in_puts shape offers calls i before after told l (inr (inr (inl (same, under, within, is)))) =
-    inr (inr (inr (same, under, (λ _. omega (arith, within, put_program_is shape calls)), is)))
-in_puts shape offers calls i before after told l (inr (inr (inr (same, all, past, is)))) =
-    let whole : events_of_puts shape before ≡ events_of_puts shape calls.puts = ap (events_of_puts shape) all in
-    close_tells shape offers calls i before after told calls.closes refl l same all (omega (arith, past, whole)) whole (is ∙ ap (λ n. put_last calls.closes (i - n)) (sym whole))
+in_puts shape offers calls i before after told l h1 = grind (arith, put_program_is, close_tells, told)
 
 pub puts-tell : PutsTellByOne
 puts-tell shape offers calls i l =
@@ -100,14 +74,7 @@ puts-tell shape offers calls i l =
 
 -- a take has at least two events
 take_long : (shape : Shape) (c : Count) (x : Take) → 2 ≤ events_in (take_phrase shape c x)
-take_long shape c (Item seen items) =
-    let scan : List Made = scan_phrase (row_read_by C) seen in
-    omega (arith, length-append scan (items_phrase shape c items), length-scan (row_read_by C) seen)
-take_long shape c (ItemAfterClose seen again items) =
-    let scan : List Made = scan_phrase (row_read_by C) seen in
-    let more : List Made = Read X true ∷ scan_phrase (row_read_by C) again in
-    omega (arith, length-append (scan ++ more) (items_phrase shape c items), length-append scan more, length-scan (row_read_by C) seen)
-take_long shape c (Empty seen) = omega (arith, length-append (scan_phrase (row_read_by C) seen) (Read X false ∷ []), length-scan (row_read_by C) seen)
+take_long shape c x = grind (arith, length-append, length-scan)
 
 end_long : (seen again : ℕ) → 2 ≤ events_in (end_phrase (Closed seen again))
 end_long seen again = omega (arith, length-append (scan_phrase (row_read_by C) seen) (Read X true ∷ scan_phrase (row_read_by C) again), length-scan (row_read_by C) seen)
@@ -121,21 +88,13 @@ take_begin wants j = TakeBegin (wants j)
 -- what an event after all takes records, given their number
 abbrev take_last : (ℕ → ℕ) → ℕ → End → ℕ → List Event
 take_last wants j Open i = []
-take_last wants j (Closed seen again) i = told_or_behind (events_in (end_phrase (Closed seen again))) (take_begin wants j) TakeClosed i []
+take_last wants j (Closed seen again) i = told_or_behind (events_in (end_phrase (Closed seen again))) (take_begin wants j) (TakeEnd Shut) i []
 
 take_told_is :
     (shape : Shape) (wants : ℕ → ℕ) (j : ℕ) (c : Count) (takes : List Take) (end : End) (i : ℕ) →
     take_told shape wants j c takes end i ≡ told (take_events shape) (count_after shape) (take_begin wants) take_answer (take_last wants (j + length takes) end) j c takes i
-take_told_is shape wants j c [] Open i = refl
-take_told_is shape wants j c [] (Closed seen again) i =
-    let here : j ≡ j + 0 = omega arith in
-    ap (λ n. told_or_behind (events_in (end_phrase (Closed seen again))) (take_begin wants n) TakeClosed i []) here
-take_told_is shape wants j c (x ∷ takes) end i =
-    let long : ℕ = take_events shape c x in
-    let next : suc j + length takes ≡ j + suc (length takes) = omega arith in
-    ap (λ l. told_or_behind long (take_begin wants j) (take_answer x) i l)
-    (take_told_is shape wants (suc j) (count_after shape c x) takes end (i - long) ∙
-    ap (λ n. told (take_events shape) (count_after shape) (take_begin wants) take_answer (take_last wants n end) (suc j) (count_after shape c x) takes (i - long)) next)
+take_told_is shape wants j c [] end i = grind arith
+take_told_is shape wants j c (x ∷ takes) end i = grind (arith, take_told_is shape wants (suc j) (count_after shape c x) takes end (i - (take_events shape c x)))
 
 -- what an event records of the takes, for any calls
 abbrev TakesTell : Shape → (ℕ → ℕ) → Takes → ℕ → List Take → List Take → List Event → Type 0
@@ -151,44 +110,14 @@ end_tells :
     (shape : Shape) (wants : ℕ → ℕ) (calls : Takes) (i : ℕ) (before after : List Take) (told : List Event) (end : End) → calls.end ≡ end →
     i < events_in (take_program shape calls) → after ≡ before → events_of_takes shape before ≤ i → events_of_takes shape before ≡ events_of_takes shape calls.takes →
     told ≡ take_last wants (length before) end (i - events_of_takes shape before) → TakeTells shape wants calls i before after told
-end_tells shape wants calls i before after told Open e l same past whole is =
-    let none : events_in (end_phrase calls.end) ≡ 0 = ap (λ b. events_in (end_phrase b)) e in
-    absurd (omega (arith, l, past, none, whole, take_program_is shape calls))
-end_tells shape wants calls i before after told (Closed seen again) e l same past whole is =
-    let first : ℕ = events_of_takes shape before in
-    let begins : Event = take_begin wants (length before) in
-    let long : ℕ = events_in (end_phrase (Closed seen again)) in
-    let long_is : events_in (end_phrase calls.end) ≡ long = ap (λ b. events_in (end_phrase b)) e in
-    elim (place long (i - first) (end_long seen again)) [
-      | IsFirst at ↦ inl (same, omega (arith, past, at), is ∙ first_told long begins TakeClosed (i - first) [] (end_long seen again) at)
-      | IsBetween some more ↦
-          inr (inr (inr (same, omega (arith, some), (λ _. omega (arith, more, long_is, whole, take_program_is shape calls)), is ∙ between_told long begins TakeClosed (i - first) [] some more)))
-      | IsLast some at ↦
-          inr (inr (inl (
-            same,
-            subst items.Tells (sym e) tt,
-            omega (arith, some),
-            omega (arith, at, long_is, whole, take_program_is shape calls),
-            is ∙ last_told long begins TakeClosed (i - first) [] some at,
-          )))
-      | IsBehind more ↦ absurd (omega (arith, more, l, past, long_is, whole, take_program_is shape calls))
-    ]
+end_tells shape wants calls i before after told end e l same past whole is =
+    grind (arith, take_program_is, place, end_long, first_told, between_told, last_told)
 
 -- the same in terms of the takes
 in_takes :
     (shape : Shape) (wants : ℕ → ℕ) (calls : Takes) (i : ℕ) (before after : List Take) (told : List Event) → i < events_in (take_program shape calls) →
     TakesTell shape wants calls i before after told → TakeTells shape wants calls i before after told
-in_takes shape wants calls i before after told l (inl (same, at, fewer, is)) =
-    let number : 0 + length before ≡ length before = omega arith in
-    inl (same, at, is ∙ ap (λ n. take_begin wants n ∷ []) number)
-in_takes shape wants calls i before after told l (inr (inl ends)) = inr (inl ends)
-in_takes shape wants calls i before after told l (inr (inr (inl (same, under, within, is)))) =
-    inr (inr (inr (same, under, (λ _. omega (arith, within, take_program_is shape calls)), is)))
-in_takes shape wants calls i before after told l (inr (inr (inr (same, all, past, is)))) =
-    let whole : events_of_takes shape before ≡ events_of_takes shape calls.takes = ap (events_of_takes shape) all in
-    let number : 0 + length calls.takes ≡ length before = omega (arith, ap length all) in
-    end_tells shape wants calls i before after told calls.end refl l same (omega (arith, past, whole)) whole
-    (is ∙ ap (λ n. take_last wants (0 + length calls.takes) calls.end (i - n)) (sym whole) ∙ ap (λ n. take_last wants n calls.end (i - events_of_takes shape before)) number)
+in_takes shape wants calls i before after told l h1 = grind (arith, take_program_is, end_tells, told)
 
 pub takes-tell : TakesTellByOne
 takes-tell shape wants calls i l =

@@ -1,8 +1,7 @@
 -- The calls of each side after its first ones: what their own events record.
-use Rattle.std.proofs.Common.{◌≡◌, ℕ, suc, ◌+◌, ◌-◌, ◌<◌, Bool, true, false, nat_eq, if◌then◌else◌, List, [], ◌∷◌, ◌++◌, length, refl, sym, ap, subst, ◌∙◌, arith, append_assoc, append-nil, length-append}
+use Rattle.std.proofs.Common.{◌≡◌, ℕ, suc, ◌+◌, ◌-◌, ◌<◌, Bool, true, false, if◌then◌else◌, List, [], ◌∷◌, ◌++◌, length, refl, sym, ap, subst, ◌∙◌, arith, append_assoc, append-nil, length-append}
 use Rattle.std.proofs.lemmas.Bool.{lt-ltb, eq-eqb}
 use Rattle.queue_calls.specs.Calls as calls
-use Rattle.queue_calls.specs.Calls.{PutBegin, TakeBegin}
 use Rattle.bits_core.specs.declared.events.Side.TheVariants.{P, C}
 use Rattle.bits_core.specs.declared.shapes.Shape.{Shape}
 use Rattle.bits_core.specs.Shape.{batch_of, take_batch_of}
@@ -10,7 +9,7 @@ use Rattle.ring_core.specs.Counts.{Count, first_count}
 use Rattle.ring_core.specs.Puts.{Put, Stored, Full, Puts, number_after, stored_after, put_phrase, put_phrases, ArePuts}
 use Rattle.ring_core.specs.Takes.{Take, Item, ItemAfterClose, Empty, End, Takes, taken_after, count_after, take_phrase, take_phrases, end_phrase, take_program, AreTakes}
 use Rattle.ring_core.specs.Items.{events_in, all_put, taken_of}
-use Rattle.ring_core.specs.Recorded.{call_told, told_or_behind, put_answer, take_answer, put_told, take_told, AreOffered}
+use Rattle.ring_core.specs.Recorded.{call_told, told_or_behind, put_told, take_told, AreOffered}
 use Rattle.ring_core.specs.GoingOn.{AreWanted}
 use Rattle.ring_core.proofs.OverSpans.Spans.{Span, Passes, Stops, Asks, whole}
 use Rattle.ring_core.proofs.OverSpans.Timeline.{AllProper}
@@ -32,15 +31,12 @@ told_in long begins ends i behind l = ap (λ (b : Bool). if b then call_told lon
 
 -- the first records the start
 pub told_first : (long : ℕ) (begins ends : calls.Event) (behind : List calls.Event) → 0 < long → told_or_behind long begins ends 0 behind ≡ begins ∷ []
-told_first long begins ends behind l =
-    told_in long begins ends 0 behind l ∙ ap (λ (b : Bool). if b then begins ∷ [] else if nat_eq (suc 0) long then ends ∷ [] else []) (eq-eqb 0 0 refl)
+told_first long begins ends behind l = grind (arith, told_in, eq-eqb)
 
 -- so they record what comes after, from its first event on
 told_behind :
     (long : ℕ) (begins ends : calls.Event) (next : ℕ → List calls.Event) (j : ℕ) → told_or_behind long begins ends (long + j) (next (long + j - long)) ≡ next j
-told_behind long begins ends next j =
-    let back : long + j - long ≡ j = omega arith in
-    behind_told long begins ends (long + j) (next (long + j - long)) (omega arith) ∙ ap next back
+told_behind long begins ends next j = grind (arith, behind_told)
 
 -- ---- the calls of a side
 
@@ -99,8 +95,7 @@ puts_first shape offers puts are offered =
 
 put_told_past : (shape : Shape) (offers : ℕ → List ℕ) (made : ℕ) (c : Count) (x : Put) (rest : List Put) (closes : Bool) (j : ℕ) →
     put_told shape offers made c (x ∷ rest) closes (put_long shape c x + j) ≡ put_told shape offers (suc made) (stored_after shape c x) rest closes j
-put_told_past shape offers made c x rest closes j =
-    told_behind (put_long shape c x) (PutBegin (offers made)) (put_answer x) (put_told shape offers (suc made) (stored_after shape c x) rest closes) j
+put_told_past shape offers made c x rest closes j = grind (arith, told_behind, put_long)
 
 put_spans_past : (shape : Shape) (puts : Puts) (c : Count) (start : ℕ) (stored : List ℕ) (x : Put) (rest : List Put) →
     SpansBehind (batch_of shape) (put_spans shape puts) start stored (spans P shape c (put_looks (x ∷ rest))) →
@@ -112,12 +107,10 @@ put_spans_past shape puts c start stored (Full seen) rest b =
     spans_past (batch_of shape) (put_spans shape puts) start (start + put_long shape c (Full seen)) stored (span_of P shape c (look seen Stops)) _ (omega arith) b
 
 number_past : (n : ℕ) (stored : List ℕ) (x : Put) → n ≡ length stored → number_after n x ≡ length (stored ++ put_items x)
-number_past n stored (Stored seen items) e = omega (arith, e, past_is n items, length-append stored items)
-number_past n stored (Full seen) e = omega (arith, e, ap length (append-nil stored))
+number_past n stored x e = grind (arith, past_is, length-append, append-nil)
 
 items_past : (stored : List ℕ) (x : Put) (rest : List Put) → stored ++ all_put (x ∷ rest) ≡ (stored ++ put_items x) ++ all_put rest
-items_past stored (Stored seen items) rest = sym (append_assoc stored items (all_put rest))
-items_past stored (Full seen) rest = ap (λ l. l ++ all_put rest) (sym (append-nil stored))
+items_past stored x rest = grind (arith, append_assoc, append-nil)
 
 -- after one more put
 pub puts_past : (shape : Shape) (offers : ℕ → List ℕ) (puts : Puts) (c : Count) (start stop : ℕ) (stored : List ℕ) (x : Put) (rest : List Put) →
@@ -159,8 +152,7 @@ takes_first shape wants takes are wanted =
 
 take_told_past : (shape : Shape) (wants : ℕ → ℕ) (made : ℕ) (c : Count) (x : Take) (rest : List Take) (end : End) (j : ℕ) →
     take_told shape wants made c (x ∷ rest) end (take_long shape c x + j) ≡ take_told shape wants (suc made) (count_after shape c x) rest end j
-take_told_past shape wants made c x rest end j =
-    told_behind (take_long shape c x) (TakeBegin (wants made)) (take_answer x) (take_told shape wants (suc made) (count_after shape c x) rest end) j
+take_told_past shape wants made c x rest end j = grind (arith, told_behind, take_long)
 
 take_spans_past : (shape : Shape) (takes : Takes) (c : Count) (start : ℕ) (taken : List ℕ) (x : Take) (rest : List Take) →
     SpansBehind (take_batch_of shape) (take_spans shape takes) start taken (spans C shape c (take_looks (x ∷ rest) takes.end)) →
@@ -176,16 +168,13 @@ take_spans_past shape takes c start taken (ItemAfterClose seen again items) rest
     let one = spans_past most (take_spans shape takes) start (start + whole y) taken y (z ∷ spans C shape next (take_looks rest takes.end)) refl b in
     let two = spans_past most (take_spans shape takes) (start + whole y) (start + take_long shape c (ItemAfterClose seen again items)) (taken ++ []) z _
     (omega (arith, take_phrase-after shape c seen again items)) one in
-    subst (λ l. SpansBehind most (take_spans shape takes) (start + take_long shape c (ItemAfterClose seen again items)) (l ++ items)
-    (spans C shape next (take_looks rest takes.end))) (append-nil taken) two
+    grind (arith, take_long, take_looks, append-nil)
 take_spans_past shape takes c start taken (Empty seen) rest b =
     spans_past (take_batch_of shape) (take_spans shape takes) start (start + take_long shape c (Empty seen)) taken (span_of C shape c (look seen (Asks false))) _
     (omega (arith, take_phrase-empty shape c seen)) b
 
 taken_past : (k : ℕ) (taken : List ℕ) (x : Take) → k ≡ length taken → taken_after k x ≡ length (taken ++ taken_of x)
-taken_past k taken (Item seen items) e = omega (arith, e, past_is k items, length-append taken items)
-taken_past k taken (ItemAfterClose seen again items) e = omega (arith, e, past_is k items, length-append taken items)
-taken_past k taken (Empty seen) e = omega (arith, e, ap length (append-nil taken))
+taken_past k taken x e = grind (arith, past_is, length-append, append-nil)
 
 -- after one more take
 pub takes_past : (shape : Shape) (wants : ℕ → ℕ) (takes : Takes) (c : Count) (start stop : ℕ) (taken : List ℕ) (x : Take) (rest : List Take) →

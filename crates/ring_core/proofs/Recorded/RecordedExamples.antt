@@ -1,6 +1,6 @@
 -- The recorded calls of small runs.
 use Rattle.std.proofs.Common.{◌≡◌, inl, ℕ, zero, suc, true, List, [], ◌∷◌, ◌++◌, take, refl, arith}
-use Rattle.queue_calls.specs.Calls.{PutBegin, PutStored, PutFull, CloseBegin, CloseEnd, TakeBegin, TakeItems, TakeClosed}
+use Rattle.queue_calls.specs.Calls.{PutBegin, PutEnd, CloseBegin, CloseEnd, TakeBegin, TakeEnd, Passed, Lacked, Shut}
 use Rattle.bits_core.specs.declared.events.Side.TheVariants.{P, C}
 use Rattle.bits_core.specs.declared.events.Event.{Event}
 use Rattle.bits_core.specs.Made.{events_of}
@@ -32,7 +32,7 @@ one_by_one = events_of P (put_program one_cell put_and_close) ++ events_of C (ta
 
 one_by_one-recorded :
     recorded one_cell two_items one_each one_by_one put_and_close second_scan ≡
-    PutBegin (1 ∷ 0 ∷ []) ∷ PutStored 1 true ∷ CloseBegin ∷ CloseEnd ∷ TakeBegin 1 ∷ TakeItems (1 ∷ []) true ∷ TakeBegin 1 ∷ TakeClosed ∷ []
+    PutBegin (1 ∷ 0 ∷ []) ∷ PutEnd (Passed 1 true) ∷ CloseBegin ∷ CloseEnd ∷ TakeBegin 1 ∷ TakeEnd (Passed (1 ∷ []) true) ∷ TakeBegin 1 ∷ TakeEnd Shut ∷ []
 unfolding one_cell
 one_by_one-recorded = refl
 
@@ -49,6 +49,6 @@ cut_short = take 11 (events_of P (put_program one_cell full_after_one)) ++ take 
 
 cut_short-recorded :
     recorded one_cell then_one one_each cut_short full_after_one second_scan ≡
-    PutBegin (1 ∷ 0 ∷ []) ∷ PutStored 1 true ∷ PutBegin (1 ∷ []) ∷ PutFull ∷ CloseBegin ∷ TakeBegin 1 ∷ []
+    PutBegin (1 ∷ 0 ∷ []) ∷ PutEnd (Passed 1 true) ∷ PutBegin (1 ∷ []) ∷ PutEnd Lacked ∷ CloseBegin ∷ TakeBegin 1 ∷ []
 unfolding one_cell
 cut_short-recorded = refl

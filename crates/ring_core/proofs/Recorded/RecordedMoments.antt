@@ -32,12 +32,7 @@ pub record Moment (h : List Event) (t p q : ℕ) (rest : List Event) : Type 0 wh
   pub takes : (j : ℕ) → clock C h (t + j) ≡ q + clock C rest j
 
 pub moment_first : (h : List Event) → Moment h 0 0 0 h
-moment_first h = record { puts = λ j. same P j; takes = λ j. same C j }
-  where
-    same : (s : Side) (j : ℕ) → clock s h (0 + j) ≡ 0 + clock s h j
-    same s j =
-        let e : 0 + j ≡ j = omega arith in
-        omega (arith, ap (clock s h) e)
+moment_first h = grind arith
 
 pub at_p : (h : List Event) (t p q : ℕ) (rest : List Event) → Moment h t p q rest → clock P h t ≡ p
 at_p h t p q rest m =
@@ -101,13 +96,7 @@ few_takes shape h takes follows =
 pub within_at :
     (shape : Shape) (h : List Event) (puts : Puts) (takes : Takes) → LawOfSpans shape h puts takes → (t p q : ℕ) (rest : List Event) → Moment h t p q rest →
     counts_begun (put_spans shape puts) p ≤ counts_begun (take_spans shape takes) q + capacity_of shape
-within_at shape h puts takes law t p q rest m =
-    omega (
-      arith,
-      (law.within t).1,
-      ap (counts_begun (put_spans shape puts)) (at_p h t p q rest m),
-      ap (counts_begun (take_spans shape takes)) (at_q h t p q rest m),
-    )
+within_at shape h puts takes law t p q rest m = grind (arith, at_p, at_q)
 
 pub prefix_at :
     (shape : Shape) (h : List Event) (puts : Puts) (takes : Takes) → LawOfSpans shape h puts takes → (t p q : ℕ) (rest : List Event) → Moment h t p q rest →
@@ -140,9 +129,7 @@ Moves capacity k (event ∷ other ∷ events) after = ⊥
 
 pub move_on : (capacity : Capacity) (k after : Kept) (events more : List calls.Event) → Moves capacity k events after → AreCounted capacity after more →
     AreCounted capacity k (events ++ more)
-move_on capacity k after [] more m r = subst (λ j. AreCounted capacity j more) m r
-move_on capacity k after (event ∷ []) more m r = (after, m, r)
-move_on capacity k after (event ∷ other ∷ events) more m r = absurd m
+move_on capacity k after events more m r = grind arith
 
 -- a step of one side
 pub record Stepped (shape : Shape) (offers : ℕ → List ℕ) (wants : ℕ → ℕ) (h : List Event) (puts : Puts) (takes : Takes) (t p q : ℕ) (rest : List Event) (k : Kept)

@@ -1,11 +1,12 @@
 -- The next event of a run is one of the producer's: what it records can be counted.
-use Rattle.std.proofs.Common.{◌≡◌, inl, inr, ℕ, suc, ◌+◌, ◌-◌, ◌%◌, ◌<◌, ◌≤◌, Bool, true, false, List, [], ◌∷◌, ◌++◌, length, take, refl, sym, ap, subst, ◌∙◌, arith, append_assoc, append-nil, length-append}
+use Rattle.std.proofs.Common.{◌≡◌, inl, inr, ℕ, suc, ◌+◌, ◌-◌, ◌%◌, ◌<◌, ◌≤◌, Bool, true, false, List, [], ◌∷◌, ◌++◌, length, take, refl, sym, ap, ◌∙◌, arith, append_assoc, append-nil, length-append}
 use Rattle.std.proofs.lemmas.List.{length-take-le, take_all, append_cancel_left}
 use Rattle.std.proofs.Math.Seq.{take-append_seam}
 use Rattle.queue_calls.specs.Queue.{exactly}
 use Rattle.queue_calls.specs.Calls as calls
 use Rattle.queue_calls.specs.Calls.{PutBegin, CloseBegin, CloseEnd}
 use Rattle.queue_calls.specs.Counting.{Kept, kept, without, EndsPut}
+use Rattle.queue_calls.proofs.Replies.{may_lack_more}
 use Rattle.queue_calls.specs.declared.turns.PutTurn.TheVariants.{Free, Offers, Closes}
 use Rattle.bits_core.specs.declared.events.Side.TheVariants.{P, C}
 use Rattle.bits_core.specs.declared.events.Event.{Event}
@@ -38,19 +39,14 @@ put_two shape c (Full seen) = omega (arith, put_some shape c seen)
 
 -- a close has at least two
 some_close : (b : Bool) → 0 < events_in (close_phrase b) → b ≡ true
-some_close true l = refl
-some_close false l = absurd (omega (arith, l))
+some_close b l = grind arith
 
 few_close : (b : Bool) → events_in (close_phrase b) ≤ 2
-few_close true = omega arith
-few_close false = omega arith
+few_close b = grind arith
 
 -- if fewer items were taken than there were, as many were taken as requested
 pub took_all : (room : ℕ) (items : List ℕ) → length (take room items) < length items → length (take room items) ≡ room
-took_all room items l = elim (at_most_or_above room (length items)) [
-  | inl m ↦ length-take-le room items m
-  | inr m ↦ absurd (omega (arith, l, ap length (take_all room items (omega (arith, m)))))
-]
+took_all room items l = grind (arith, at_most_or_above, length-take-le, take_all)
 
 fills : (d room capacity : ℕ) → room ≡ capacity - d → 1 ≤ room → d + room ≡ capacity
 fills d room capacity e l = omega (arith, e, l)
@@ -82,8 +78,7 @@ module _ (shape : Shape) (offers : ℕ → List ℕ) (wants : ℕ → ℕ) (h : 
   lacks c stored (Full seen) more t p ended inside b place e l over fewer =
       let y = span_of P shape c (look seen Stops) in
       let st = stands_next (batch_of shape) (put_spans shape puts) p stored y _ b.spans_are in
-      let low = law.full p (length stored) y st refl (omega (arith, over)) t place in
-      omega (arith, low, e, l)
+      grind arith
 
   -- a put begins
   put_begins :
@@ -141,8 +136,7 @@ module _ (shape : Shape) (offers : ℕ → List ℕ) (wants : ℕ → ℕ) (h : 
       Stepped shape offers wants h puts takes (suc t) (suc p) q rest k (told p)
   close_begins t p q e rest k by now c b none free =
       let here : p ≡ p + 0 = omega arith in
-      let closes : puts.closes ≡ true =
-      some_close puts.closes (omega (arith, next_p h t p q e rest by now.moment, few_puts shape h puts run.puts_follow, b.all)) in
+      let closes : puts.closes ≡ true = grind (arith, some_close, next_p, few_puts) in
       by_events shape offers wants h puts takes (suc t) (suc p) q rest k (CloseBegin ∷ []) (told p)
       (ap told here ∙ b.told 0 ∙ ap (λ d. put_told shape offers b.made c [] d 0) closes ∙ told_first (events_in (close_phrase true)) CloseBegin CloseEnd [] (omega arith))
       (record {
@@ -232,9 +226,7 @@ module _ (shape : Shape) (offers : ℕ → List ℕ) (wants : ℕ → ℕ) (h : 
       let (b, prefix) = prefix_at shape h puts takes law (suc t) (suc p) q rest m in
       let all : (now.taken ++ a) ++ b ≡ after =
       ap (λ l. l ++ b) taken_first ∙ prefix ∙ begun_here (batch_of shape) (put_spans shape puts) (suc p) after _ next.spans_are in
-      let inside : now.taken ++ k.inside ≡ now.taken ++ ((a ++ b) ++ gone) =
-      now.items ∙ ap (λ l. now.stored ++ l) (r.left_is ∙ sym left_is) ∙ sym (append_assoc now.stored items gone) ∙ ap (λ l. l ++ gone) (sym all) ∙
-      ap (λ l. l ++ gone) (append_assoc now.taken a b) ∙ append_assoc now.taken (a ++ b) gone in
+      let inside : now.taken ++ k.inside ≡ now.taken ++ ((a ++ b) ++ gone) = grind (arith, append_assoc) in
       let inside_is : k.inside ≡ (a ++ b) ++ gone = append_cancel_left now.taken k.inside ((a ++ b) ++ gone) inside in
       let long : length k.inside ≡ length (a ++ b) + length gone = ap length inside_is ∙ length-append (a ++ b) gone in
       let over : length now.left ≡ length items + length gone = ap length (r.left_is ∙ sym left_is) ∙ length-append items gone in
@@ -243,8 +235,7 @@ module _ (shape : Shape) (offers : ℕ → List ℕ) (wants : ℕ → ℕ) (h : 
       ap (λ n. take n k.inside) so_many ∙ ap (take (length (a ++ b))) inside_is ∙ take-append_seam (a ++ b) gone) in
       let within = within_at shape h puts takes law (suc t) (suc p) q rest m in
       let counted = counted_here (batch_of shape) (put_spans shape puts) (suc p) after _ next.spans_are in
-      let sizes : length now.taken + length (a ++ b) ≡ length after =
-      sym (length-append now.taken (a ++ b)) ∙ ap length (sym (append_assoc now.taken a b) ∙ all) in
+      let sizes : length now.taken + length (a ++ b) ≡ length after = grind (arith, length-append, append_assoc) in
       record {
         ends = ((omega (arith, long, over), omega (arith, long, over, within, counted, sizes, view.begun)), refl);
         now = record {
@@ -268,20 +259,13 @@ module _ (shape : Shape) (offers : ℕ → List ℕ) (wants : ℕ → ℕ) (h : 
       Stepped shape offers wants h puts takes t p q rest k (put_answer x ∷ [])
   put_told_end t p q rest k stored left c start before (Stored seen items) more b offered some few lacks r = record {
     after = kept (without (length left - length items) k.inside) Free k.take k.shut;
-    moves = (length left, before, offered, b.are.0.2.some, few, (λ says l. omega (arith, lacks l)), r.ends);
+    moves = inl (length left, before, offered, refl, (b.are.0.2.some, few), may_lack_more (exactly (capacity_of shape)) before (length items) (length left) true (λ says l. omega (arith, lacks l)), r.ends);
     now = r.now;
   }
   put_told_end t p q rest k stored left c start before (Full seen) more b offered some few lacks r =
-      let all : length left - 0 ≡ length left = omega arith in
       record {
         after = kept (without (length left - 0) k.inside) Free k.take k.shut;
-        moves = (
-          length left,
-          before,
-          offered,
-          omega (arith, lacks some),
-          subst (λ n. EndsPut (exactly (capacity_of shape)) k n (kept (without (length left - 0) k.inside) Free k.take k.shut)) all r.ends,
-        );
+        moves = inl (length left, before, offered, refl, tt, inr (omega (arith, lacks some)), r.ends);
         now = r.now;
       }
 

@@ -23,8 +23,7 @@ use Rattle.ring_core.proofs.Recorded.RecordedPuts.{put_step}
 use Rattle.ring_core.proofs.Recorded.RecordedTakes.{take_step}
 
 side_of : (s : Side) → (s ≡ P) ⊎ (s ≡ C)
-side_of P = inl refl
-side_of C = inr refl
+side_of s = grind arith
 
 -- what the events record if the first is of this side
 abbrev told_by : (f g : ℕ → List calls.Event) → (p q : ℕ) → List Event → Side → List calls.Event

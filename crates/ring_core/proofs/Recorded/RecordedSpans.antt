@@ -15,15 +15,7 @@ pub record SpansBehind (most : ℕ) (all : List Span) (start : ℕ) (passed : Li
 
 -- after none
 pub spans_first : (most : ℕ) (all : List Span) → AllProper most all → SpansBehind most all 0 [] all
-spans_first most all proper = record {
-  begun = λ j. ap (begun_items all) (same j);
-  ended = λ j. ap (ended_items all) (same j);
-  stands = λ s n x st. stands_at all s (0 + s) n (0 + n) x (omega arith) (omega arith) st;
-  proper = proper;
-}
-  where
-    same : (j : ℕ) → 0 + j ≡ j
-    same j = omega arith
+spans_first most all proper = grind (arith, stands_at)
 
 -- after one more
 pub spans_past :
@@ -59,9 +51,7 @@ stands_next most all start passed x rest b =
 
 -- no fewer than were passed
 passed_at : (of : ℕ → List ℕ) (n start i : ℕ) (passed more : List ℕ) → start ≤ i → n ≡ length (of i) → of (start + (i - start)) ≡ passed ++ more → length passed ≤ n
-passed_at of n start i passed more l size parts =
-    let at : start + (i - start) ≡ i = omega (arith, l) in
-    omega (arith, size, ap (λ j. length (of j)) at, ap length parts, length-append passed more)
+passed_at of n start i passed more l size parts = grind (arith, length-append)
 
 pub passed_begun : (most : ℕ) (all : List Span) (start : ℕ) (passed : List ℕ) (rest : List Span) (i : ℕ) → start ≤ i →
     SpansBehind most all start passed rest → length passed ≤ counts_begun all i
@@ -74,9 +64,7 @@ passed_ended most all start passed rest i l b = passed_at (ended_items all) (cou
 -- between two spans, exactly those
 pub begun_here : (most : ℕ) (all : List Span) (start : ℕ) (passed : List ℕ) (rest : List Span) →
     SpansBehind most all start passed rest → begun_items all start ≡ passed
-begun_here most all start passed rest b =
-    let at : start ≡ start + 0 = omega arith in
-    ap (begun_items all) at ∙ b.begun 0 ∙ ap (λ l. passed ++ l) (none_begun rest) ∙ append-nil passed
+begun_here most all start passed rest b = grind (arith, none_begun rest, append-nil passed)
 
 pub counted_here : (most : ℕ) (all : List Span) (start : ℕ) (passed : List ℕ) (rest : List Span) →
     SpansBehind most all start passed rest → counts_begun all start ≡ length passed
@@ -86,17 +74,10 @@ counted_here most all start passed rest b = sym (length-begun_items all start) �
 first_begun : (x : Span) (rest : List Span) (j : ℕ) → j ≤ whole x → IsPrefix (begun_items (x ∷ rest) j) (items_of x.outcome)
 first_begun x rest j l = elim (at_most_or_above j (before_count x)) [
   | inl m ↦ (items_of x.outcome, ap (λ l. l ++ items_of x.outcome) (begun_items_first x rest j m (omega arith)))
-  | inr m ↦ (
-      let none : j - whole x ≡ 0 = omega (arith, l) in
-      ([], append-nil _ ∙ begun_items_cons x rest j m ∙ ap (λ i. items_of x.outcome ++ begun_items rest i) none ∙ ap (λ l. items_of x.outcome ++ l) (none_begun rest) ∙ append-nil (items_of x.outcome)))
+  | inr m ↦ grind (arith, append-nil, begun_items_cons, none_begun)
 ]
 
 pub begun_within : (most : ℕ) (all : List Span) (start : ℕ) (passed : List ℕ) (x : Span) (rest : List Span) (i : ℕ) → start ≤ i → i ≤ start + whole x →
     SpansBehind most all start passed (x ∷ rest) → IsPrefix (begun_items all i) (passed ++ items_of x.outcome)
 begun_within most all start passed x rest i l m b =
-    let j : ℕ = i - start in
-    let at : i ≡ start + j = omega (arith, l) in
-    let (more, e) = first_begun x rest j (omega (arith, m)) in (
-      more,
-      ap (λ l. l ++ more) (ap (begun_items all) at ∙ b.begun j) ∙ append_assoc passed (begun_items (x ∷ rest) j) more ∙ ap (λ l. passed ++ l) e,
-    )
+    grind (arith, first_begun x rest (i - start) (omega (arith, m)), append_assoc passed (begun_items (x ∷ rest) (i - start)) ((first_begun x rest (i - start) (omega (arith, m))).0))

@@ -1,5 +1,5 @@
 -- Where each side is in its calls, with an auditor's state for it.
-use Rattle.std.proofs.Common.{◌≡◌, ◌⊎◌, inl, inr, ℕ, ◌+◌, ◌-◌, ◌<◌, ◌≤◌, ◌%◌, Bool, true, false, if◌then◌else◌, List, [], ◌∷◌, ◌++◌, length, drop, refl, sym, ap, subst, ◌∙◌, arith, append_assoc, append-nil, length-append, take-append-drop}
+use Rattle.std.proofs.Common.{◌≡◌, ◌⊎◌, inl, inr, ℕ, ◌+◌, ◌-◌, ◌<◌, ◌≤◌, ◌%◌, Bool, true, false, if◌then◌else◌, List, [], ◌∷◌, ◌++◌, length, refl, sym, ap, subst, ◌∙◌, arith, append_assoc, append-nil, length-append, take-append-drop}
 use Rattle.queue_calls.specs.State.{offered_by, asked_by}
 use Rattle.queue_calls.specs.declared.turns.PutTurn.{PutTurn}
 use Rattle.queue_calls.specs.declared.turns.PutTurn.TheVariants.{Free, Offers, Closes}
@@ -11,8 +11,8 @@ use Rattle.bits_core.specs.declared.shapes.Shape.{Shape}
 use Rattle.bits_core.specs.Shape.{batch_of, capacity_of, modulus_of, take_batch_of}
 use Rattle.bits_core.specs.Made.{subhistory, IsPrefix}
 use Rattle.ring_core.specs.Counts.{Count, first_count}
-use Rattle.ring_core.specs.Puts.{Put, Stored, Full, Puts, stored_after, put_phrase, put_phrases, IsPutOf, room_in}
-use Rattle.ring_core.specs.Takes.{Take, Item, ItemAfterClose, Empty, End, Open, Closed, Takes, take_program, AreTakes}
+use Rattle.ring_core.specs.Puts.{Put, Stored, Full, Puts, put_phrases, IsPutOf, room_in}
+use Rattle.ring_core.specs.Takes.{Take, End, Closed, Takes, take_program, AreTakes}
 use Rattle.ring_core.specs.ConsumerCalls.{IsTakeOf}
 use Rattle.ring_core.specs.Items.{events_in, all_put, taken_of}
 use Rattle.ring_core.proofs.OverSpans.Spans.{Passes, Stops, counts_begun, counts_ended, begun_items, ended_items}
@@ -100,9 +100,7 @@ pub record PutView (shape : Shape) (puts : Puts) (p : ℕ) (stored left : List �
 
 -- a put's items are the first of those that it is offered
 pub first_stored : (shape : Shape) (n : ℕ) (items : List ℕ) (x : Put) → IsPutOf shape n items x → IsPrefix (put_items x) items
-first_stored shape n items (Stored seen stored) e =
-    let room : ℕ = room_in shape (n % modulus_of shape) seen in
-    (drop room items, ap (λ l. l ++ drop room items) e ∙ take-append-drop room items)
+first_stored shape n items (Stored seen stored) e = grind (arith, take-append-drop (room_in shape (n % modulus_of shape) seen) items)
 first_stored shape n items (Full seen) e = (items, refl)
 
 pub longer : (a b whole : List ℕ) → IsPrefix a b → IsPrefix b whole → IsPrefix a whole
@@ -142,8 +140,7 @@ runs_view shape offers h puts p stored left put r =
       few = passed_begun (batch_of shape) (put_spans shape puts) r.start stored _ p before b.spans_are;
       ended = passed_ended (batch_of shape) (put_spans shape puts) r.start stored _ p before b.spans_are;
       left_by = ap offered_by r.put_is;
-      over = λ l.
-          absurd (omega (arith, l, b.all, r.not_ended, length-append (put_phrase shape r.count r.call) (put_phrases shape (stored_after shape r.count r.call) r.rest)));
+      over = λ l. grind (arith, length-append);
     }
 
 -- after all puts
@@ -239,30 +236,23 @@ first_taken shape wants takes c start taken rest q l b =
 
 -- a take takes no more than it asks for
 pub few_items : (shape : Shape) (k wanted : ℕ) (x : Take) → IsTakeOf shape k wanted x → length (taken_of x) ≤ wanted
-few_items shape k wanted (Item seen items) e = e.0
-few_items shape k wanted (ItemAfterClose seen again items) e = e.0
-few_items shape k wanted (Empty seen) e = omega arith
+few_items shape k wanted x e = grind arith
 
 none_if : (t : Bool) (l : List ℕ) → (if t then [] else []) ++ l ≡ l
-none_if true l = refl
-none_if false l = refl
+none_if t l = grind arith
 
 -- the take that returns Closed counts nothing
 end_begun : (shape : Shape) (c : Count) (end : End) (j : ℕ) → begun_items (spans C shape c (take_looks [] end)) j ≡ []
-end_begun shape c Open j = refl
-end_begun shape c (Closed seen again) j = none_if _ _ ∙ none_if _ []
+end_begun shape c end j = grind (arith, none_if)
 
 pub end_ended : (shape : Shape) (c : Count) (end : End) (j : ℕ) → ended_items (spans C shape c (take_looks [] end)) j ≡ []
-end_ended shape c Open j = refl
-end_ended shape c (Closed seen again) j = none_if _ _ ∙ none_if _ []
+end_ended shape c end j = grind (arith, none_if)
 
 over_begun :
     (shape : Shape) (wants : ℕ → ℕ) (takes : Takes) (c : Count) (start : ℕ) (taken : List ℕ) (q : ℕ) → start ≤ q → TakesBehind shape wants takes c start taken [] →
     counts_begun (take_spans shape takes) q ≤ length taken
 over_begun shape wants takes c start taken q l b =
-    let on : q ≡ start + (q - start) = omega (arith, l) in
-    let just = ap (begun_items (take_spans shape takes)) on ∙ b.spans_are.begun (q - start) ∙ ap (λ l. taken ++ l) (end_begun shape c takes.end (q - start)) ∙ append-nil taken in
-    omega (arith, length-begun_items (take_spans shape takes) q, ap length just)
+    grind (arith, end_begun shape c takes.end (q - start), append-nil taken, length-begun_items (take_spans shape takes) q)
 
 pub take_view : (shape : Shape) (wants : ℕ → ℕ) (h : List Event) (takes : Takes) (q : ℕ) (taken : List ℕ) (take : TakeTurn) → AreTakes shape 0 takes.takes takes.end →
     TakeAt shape wants h takes q taken take → TakeView shape takes q taken take

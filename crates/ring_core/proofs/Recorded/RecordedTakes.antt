@@ -4,9 +4,10 @@ use Rattle.std.proofs.lemmas.List.{append_cancel_left}
 use Rattle.std.proofs.Math.Seq.{drop-append_seam}
 use Rattle.queue_calls.specs.Queue.{exactly}
 use Rattle.queue_calls.specs.Calls as calls
-use Rattle.queue_calls.specs.Calls.{TakeBegin, TakeClosed}
+use Rattle.queue_calls.specs.Calls.{TakeBegin, TakeEnd, Shut}
 use Rattle.queue_calls.specs.State.{offered_by, has_closed}
 use Rattle.queue_calls.specs.Counting.{Kept, kept, EndsTake}
+use Rattle.queue_calls.proofs.Replies.{found_fewer}
 use Rattle.queue_calls.specs.declared.turns.TakeTurn.{TakeTurn}
 use Rattle.queue_calls.specs.declared.turns.TakeTurn.TheVariants.{Rests, Waits}
 use Rattle.bits_core.specs.declared.events.Side.TheVariants.{P, C}
@@ -38,7 +39,6 @@ use Rattle.ring_core.proofs.Recorded.RecordedStates.{before_close, IsClosing, Ta
 use Rattle.ring_core.proofs.Recorded.RecordedMoments.{at_p, at_q, past_q, next_q, place_q, few_takes, within_at, prefix_at, Now, Stepped, by_events}
 use Rattle.ring_core.proofs.Recorded.TellsByOne.{between_told, last_told}
 use Rattle.bits_core.proofs.LawLemmas.{subhistory_has_place}
-use Rattle.bits_core.proofs.OwnEvents.{by_case}
 
 -- a take has at least two events
 take_two : (shape : Shape) (c : Count) (x : Take) → 2 ≤ take_long shape c x
@@ -49,8 +49,7 @@ end_two seen again = omega (arith, end_some seen again)
 
 -- a take of fewer items than it asks for takes all that its scan showed
 takes_shown : (wanted shown m : ℕ) → (m ≡ wanted) ⊎ (m ≡ shown) → m < wanted → shown ≡ m
-takes_shown wanted shown m (inl e) l = absurd (omega (arith, e, l))
-takes_shown wanted shown m (inr e) l = sym e
+takes_shown wanted shown m h1 l = grind arith
 
 -- every take asks for an item, including the one that returns Closed
 module _ (shape : Shape) (offers : ℕ → List ℕ) (wants : ℕ → ℕ) (h : List Event) (puts : Puts) (takes : Takes) (run : IsRun shape h puts takes)
@@ -66,24 +65,13 @@ module _ (shape : Shape) (offers : ℕ → List ℕ) (wants : ℕ → ℕ) (h : 
   shut_later :
       (p q : ℕ) → (before_close shape puts < p) × ((before_close shape puts + 2 ≤ p) ⊎ (events_in (take_program shape takes) ≤ q)) →
       (before_close shape puts < p) × ((before_close shape puts + 2 ≤ p) ⊎ (events_in (take_program shape takes) ≤ suc q))
-  shut_later p q (l, inl m) = (l, inl m)
-  shut_later p q (l, inr m) = (l, inr (omega (arith, m)))
+  shut_later p q h1 = grind arith
 
   -- after an event of the consumer that neither takes items nor returns Closed, it is in this state
   turns :
       (t p q : ℕ) (e : Event) (rest : List Event) (k : Kept) → e.side ≡ C → (now : Here t p q (e ∷ rest) k) → (turn : TakeTurn) →
       TakeAt shape wants h takes (suc q) now.taken turn → Here (suc t) p (suc q) rest (kept k.inside k.put turn k.shut)
-  turns t p q e rest k by now turn at = record {
-    stored = now.stored;
-    left = now.left;
-    taken = now.taken;
-    moment = past_q h t p q e rest by now.moment;
-    put = now.put;
-    take = at;
-    items = now.items;
-    shut = λ s. shut_later p q (now.shut s);
-    closed = now.closed;
-  }
+  turns t p q e rest k by now turn at = grind (arith, past_q, shut_later)
 
   -- when a take begins that will find nothing
   none_inside :
@@ -96,14 +84,8 @@ module _ (shape : Shape) (offers : ℕ → List ℕ) (wants : ℕ → ℕ) (h : 
       let st = stands_next most (take_spans shape takes) q taken y _ b.spans_are in
       let long = take_phrase-empty shape c seen in
       let (fresh, opened) = law.empty q (length taken) y st refl (omega (arith, over, long)) t place in
-      let some = take_two shape c (Empty seen) in
       let here : q + 0 ≡ q = omega arith in
-      let taken_is : counts_ended (take_spans shape takes) q ≡ length taken =
-      ap (counts_ended (take_spans shape takes)) (sym here) ∙
-      ended_at most (take_spans shape takes) (proper_takes shape takes run.takes_follow.are) q (length taken) y st 0 (omega (arith, some, long)) in (
-        omega (arith, ended, l, fresh, ap (counts_ended (put_spans shape puts)) ep, ap (counts_ended (take_spans shape takes)) eq, taken_is),
-        omega (arith, opened, ep),
-      )
+      grind (arith, ended_at, proper_takes, opened)
 
   -- when a scan begins whose items are all taken, and before, no more items were stored than taken up to and including these
   drained :
@@ -141,9 +123,7 @@ module _ (shape : Shape) (offers : ℕ → List ℕ) (wants : ℕ → ℕ) (h : 
       let st =
       stands_at (take_spans shape takes) (q + whole y) (q + whole y) (length taken + 0) (length taken) z refl (omega arith)
       (b.spans_are.stands (whole y) 0 z (inr (0, 0, omega arith, refl, inl (refl, refl, refl)))) in
-      let shown : distance (modulus_of shape) again (c.number % modulus_of shape) ≡ length items = takes_shown _ _ _ b.wanted.0.1 fewer in
-      let few = drained c taken again items t (q + whole y) st b.number shown b.are.0.2.some (omega (arith, over, take_phrase-after shape c seen again items)) (omega (arith, eq)) in
-      omega (arith, few, ended, l, ap (counts_ended (put_spans shape puts)) ep)
+      grind (arith, drained, take_phrase-after)
   lacks c taken (Empty seen) more t p q stored inside b place ep eq ended l over fewer =
       omega (arith, (none_inside c taken seen more t p q stored inside b place ep eq ended l over).0)
 
@@ -154,16 +134,10 @@ module _ (shape : Shape) (offers : ℕ → List ℕ) (wants : ℕ → ℕ) (h : 
       (shut ≡ true → (before_close shape puts < p) × ((before_close shape puts + 2 ≤ p) ⊎ (events_in (take_program shape takes) ≤ q))) →
       q < length (subhistory C h) → q + take_long shape c x ≤ length (subhistory C h) → taken_of x ≡ [] → shut ≡ false
   opened c taken (Item seen items) more t p q stored inside shut b place ep eq ended l is_shut next over none = absurd (omega (arith, b.are.0.1.some, ap length none))
-  opened c taken (ItemAfterClose seen again items) more t p q stored inside shut b place ep eq ended l is_shut next over none =
-      absurd (omega (arith, b.are.0.2.some, ap length none))
+  opened c taken (ItemAfterClose seen again items) more t p q stored inside shut b place ep eq ended l is_shut next over none = grind arith
   opened c taken (Empty seen) more t p q stored inside shut b place ep eq ended l is_shut next over none =
       let early = (none_inside c taken seen more t p q stored inside b place ep eq ended l over).1 in
-      by_case shut
-      (λ s. elim (is_shut s).1 [
-        | inl m ↦ absurd (omega (arith, m, early))
-        | inr m ↦ absurd (omega (arith, m, next, few_takes shape h takes run.takes_follow))
-      ])
-      (λ s. s)
+      grind (arith, few_takes)
 
   -- a take begins
   take_begins :
@@ -237,13 +211,11 @@ module _ (shape : Shape) (offers : ℕ → List ℕ) (wants : ℕ → ℕ) (h : 
       let m = past_q h t p q e rest by now.moment in
       let view = put_view shape offers h puts p now.stored now.left k.put now.put in
       let next = takes_past shape wants takes r.count r.start (suc q) now.taken r.call r.rest stop r.behind in
-      let at : suc q + 0 ≡ suc q = omega arith in
       let ended = next.spans_are.ended 0 in
       let others = ended_items (spans C shape (count_after shape r.count r.call) (take_looks r.rest takes.end)) 0 in
       let (b, prefix) = prefix_at shape h puts takes law (suc t) p (suc q) rest m in
       let (d, begun) = view.begun in
-      let first : (((now.taken ++ items) ++ others) ++ b) ++ d ≡ now.stored ++ now.left =
-      ap (λ l. (l ++ b) ++ d) (sym ended ∙ ap (ended_items (take_spans shape takes)) at) ∙ ap (λ l. l ++ d) prefix ∙ begun in
+      let first : (((now.taken ++ items) ++ others) ++ b) ++ d ≡ now.stored ++ now.left = grind arith in
       let more : List ℕ = others ++ (b ++ d) in
       let all : (now.taken ++ items) ++ more ≡ now.stored ++ now.left = sym (simp append_assoc) ∙ first in
       let inside : k.inside ≡ items ++ more = append_cancel_left now.taken k.inside (items ++ more) (now.items ∙ sym all ∙ append_assoc now.taken items more) in
@@ -278,17 +250,17 @@ module _ (shape : Shape) (offers : ℕ → List ℕ) (wants : ℕ → ℕ) (h : 
       Stepped shape offers wants h puts takes t p q rest k (take_answer x ∷ [])
   take_told_end t p q rest k c start taken before shut (Item seen items) more b waits some few open_then r = record {
     after = kept (drop (length items) k.inside) k.put Rests k.shut;
-    moves = (wants b.made, before, shut, waits, b.are.0.1.some, b.wanted.0.0, (λ says l. few l), (r.more, r.next), r.ends);
+    moves = (wants b.made, before, shut, waits, inl (refl, (b.are.0.1.some, b.wanted.0.0), found_fewer before shut items (wants b.made) true b.are.0.1.some (λ says l. few l), (r.more, r.next), r.ends));
     now = r.now;
   }
   take_told_end t p q rest k c start taken before shut (ItemAfterClose seen again items) more b waits some few open_then r = record {
     after = kept (drop (length items) k.inside) k.put Rests k.shut;
-    moves = (wants b.made, before, shut, waits, b.are.0.2.some, b.wanted.0.0, (λ says l. few l), (r.more, r.next), r.ends);
+    moves = (wants b.made, before, shut, waits, inl (refl, (b.are.0.2.some, b.wanted.0.0), found_fewer before shut items (wants b.made) true b.are.0.2.some (λ says l. few l), (r.more, r.next), r.ends));
     now = r.now;
   }
   take_told_end t p q rest k c start taken before shut (Empty seen) more b waits some few open_then r = record {
     after = kept (drop 0 k.inside) k.put Rests k.shut;
-    moves = (wants b.made, before, waits ∙ ap (λ d. Waits (wants b.made) before d) (open_then refl), omega (arith, few some), r.ends);
+    moves = (wants b.made, before, shut, waits, inl (refl, tt, (λ l. (omega (arith, few some), λ _ late. let never : false ≡ true = sym (open_then refl) ∙ late in absurd cc)), (r.more, r.next), r.ends));
     now = r.now;
   }
 
@@ -324,7 +296,7 @@ module _ (shape : Shape) (offers : ℕ → List ℕ) (wants : ℕ → ℕ) (h : 
       let two = end_two seen again in
       let before : ℕ = length k.inside - offered_by k.put in
       by_events shape offers wants h puts takes (suc t) p (suc q) rest k (TakeBegin wanted ∷ []) (told q)
-      (ap told here ∙ b.told 0 ∙ end_told b.made c takes.end seen again 0 is ∙ told_first (end_long seen again) (TakeBegin wanted) TakeClosed [] (omega (arith, two)))
+      (ap told here ∙ b.told 0 ∙ end_told b.made c takes.end seen again 0 is ∙ told_first (end_long seen again) (TakeBegin wanted) (TakeEnd Shut) [] (omega (arith, two)))
       (record {
         after = kept k.inside k.put (Waits wanted before k.shut) k.shut;
         moves = (rests, some_wanted b.made, refl);
@@ -347,7 +319,7 @@ module _ (shape : Shape) (offers : ℕ → List ℕ) (wants : ℕ → ℕ) (h : 
       let on : q ≡ r.start + j = omega (arith, r.begun) in
       by_events shape offers wants h puts takes (suc t) p (suc q) rest k [] (told q)
       (ap told on ∙ r.behind.told j ∙ end_told r.behind.made r.count takes.end r.seen r.again j r.end_is ∙
-      between_told (end_long r.seen r.again) (TakeBegin (wants r.behind.made)) TakeClosed j [] (omega (arith, r.begun)) (omega (arith, l, r.begun)))
+      between_told (end_long r.seen r.again) (TakeBegin (wants r.behind.made)) (TakeEnd Shut) j [] (omega (arith, r.begun)) (omega (arith, l, r.begun)))
       (record {
         after = k;
         moves = refl;
@@ -366,8 +338,7 @@ module _ (shape : Shape) (offers : ℕ → List ℕ) (wants : ℕ → ℕ) (h : 
   tells end seen again e = subst Tells (sym e) tt
 
   is_closed : (k : Kept) (p : ℕ) → IsClosing shape puts p k.put → (before_close shape puts + 2 ≤ p → k.shut ≡ true) → has_closed k.put k.shut ≡ true
-  is_closed k p (inl (again, e)) closed = ap (λ x. has_closed x k.shut) e
-  is_closed k p (inr (l, e)) closed = ap (λ x. has_closed x k.shut) e ∙ closed l
+  is_closed k p h1 closed = grind arith
 
   nothing : (front inside : List ℕ) → front ++ inside ≡ front → inside ≡ []
   nothing front inside e = append_cancel_left front inside [] (e ∙ sym (append-nil front))
@@ -393,12 +364,12 @@ module _ (shape : Shape) (offers : ℕ → List ℕ) (wants : ℕ → ℕ) (h : 
       ap (ended_items (take_spans shape takes)) (sym last ∙ sym at) ∙ sym (takes_items shape first_count takes.takes takes.end (clock C h (suc t))) ∙ taken_all in
       let empty : k.inside ≡ [] =
       nothing now.taken k.inside (now.items ∙ ap (λ l. now.stored ++ l) none ∙ append-nil now.stored ∙ stored_all ∙ sym taken_is) in
-      by_events shape offers wants h puts takes (suc t) p (suc q) rest k (TakeClosed ∷ []) (told q)
+      by_events shape offers wants h puts takes (suc t) p (suc q) rest k (TakeEnd Shut ∷ []) (told q)
       (ap told on ∙ r.behind.told j ∙ end_told r.behind.made r.count takes.end r.seen r.again j r.end_is ∙
-      last_told (end_long r.seen r.again) (TakeBegin (wants r.behind.made)) TakeClosed j [] (omega (arith, r.begun)) (omega (arith, stop, r.begun)))
+      last_told (end_long r.seen r.again) (TakeBegin (wants r.behind.made)) (TakeEnd Shut) j [] (omega (arith, r.begun)) (omega (arith, stop, r.begun)))
       (record {
         after = kept [] k.put Rests true;
-        moves = (wants r.behind.made, r.before, r.shut, r.take_is, empty, is_closed k p closing now.closed, refl);
+        moves = (wants r.behind.made, r.before, r.shut, r.take_is, inr (refl, empty, is_closed k p closing now.closed, refl));
         now = record {
           stored = now.stored;
           left = now.left;

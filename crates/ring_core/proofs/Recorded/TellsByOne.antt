@@ -1,5 +1,5 @@
 -- What one event records of calls that follow one another, by those of them that are over before it and with it.
-use Rattle.std.proofs.Common.{◌≡◌, ◌⊎◌, inl, inr, ℕ, suc, ◌+◌, ◌-◌, ◌<◌, ◌≤◌, Bool, false, nat_eq, if◌then◌else◌, List, [], ◌∷◌, ◌++◌, length, refl, ap, ◌∙◌, arith}
+use Rattle.std.proofs.Common.{◌≡◌, ◌⊎◌, ℕ, suc, ◌+◌, ◌-◌, ◌<◌, ◌≤◌, Bool, false, nat_eq, if◌then◌else◌, List, [], ◌∷◌, ◌++◌, length, refl, ap, ◌∙◌, arith}
 use Rattle.std.proofs.lemmas.Bool.Decides.{nat_tests}
 use Rattle.std.proofs.lemmas.Bool.{le-leb, lt-leb, lt-ltb, le-ltb, eq-eqb}
 use Rattle.queue_calls.specs.Calls.{Event}
@@ -24,34 +24,20 @@ pub data Place (long i : ℕ) : Type 0 where
   IsBehind : long ≤ i → Place long i
 
 pub place : (long i : ℕ) → 2 ≤ long → Place long i
-place long i some = elim (at_most_or_above long i) [
-  | inl l ↦ IsBehind l
-  | inr l ↦ elim (at_most_or_above i 0) [
-    | inl none ↦ IsFirst (omega (arith, none))
-    | inr more ↦ elim (at_most_or_above long (suc i)) [ inl m ↦ IsLast more (omega (arith, l, m)) | inr m ↦ IsBetween more m ]
-  ]
-]
+place long i some = grind (arith, at_most_or_above)
 
 -- ---- what an event of one call records
 
 pub first_told : (long : ℕ) (begins ends : Event) (i : ℕ) (behind : List Event) → 2 ≤ long → i ≡ 0 → told_or_behind long begins ends i behind ≡ begins ∷ []
-first_told long begins ends i behind some e =
-    ap (λ (b : Bool). if b then call_told long begins ends i else behind) (lt-ltb i long (omega (arith, some, e))) ∙
-    ap (λ (b : Bool). if b then begins ∷ [] else if nat_eq (suc i) long then ends ∷ [] else []) (eq-eqb i 0 e)
+first_told long begins ends i behind some e = grind (arith, lt-ltb, eq-eqb)
 
 pub between_told :
     (long : ℕ) (begins ends : Event) (i : ℕ) (behind : List Event) → 0 < i → suc i < long → told_or_behind long begins ends i behind ≡ []
-between_told long begins ends i behind l m =
-    ap (λ (b : Bool). if b then call_told long begins ends i else behind) (lt-ltb i long (omega (arith, m))) ∙
-    ap (λ (b : Bool). if b then begins ∷ [] else if nat_eq (suc i) long then ends ∷ [] else []) (not_first i l) ∙
-    ap (λ (b : Bool). if b then ends ∷ [] else []) (eq_not (suc i) long m)
+between_told long begins ends i behind l m = grind (arith, lt-ltb, not_first, eq_not)
 
 pub last_told :
     (long : ℕ) (begins ends : Event) (i : ℕ) (behind : List Event) → 0 < i → suc i ≡ long → told_or_behind long begins ends i behind ≡ ends ∷ []
-last_told long begins ends i behind l e =
-    ap (λ (b : Bool). if b then call_told long begins ends i else behind) (lt-ltb i long (omega (arith, e))) ∙
-    ap (λ (b : Bool). if b then begins ∷ [] else if nat_eq (suc i) long then ends ∷ [] else []) (not_first i l) ∙
-    ap (λ (b : Bool). if b then ends ∷ [] else []) (eq-eqb (suc i) long e)
+last_told long begins ends i behind l e = grind (arith, lt-ltb, not_first, eq-eqb)
 
 pub behind_told : (long : ℕ) (begins ends : Event) (i : ℕ) (behind : List Event) → long ≤ i → told_or_behind long begins ends i behind ≡ behind
 behind_told long begins ends i behind l = ap (λ (b : Bool). if b then call_told long begins ends i else behind) (le-ltb i long l)
@@ -76,9 +62,7 @@ module _ {S X : Type 0} (events : S → X → ℕ) (after : S → X → S) (begi
   none_over s x xs t l = ap (λ (b : Bool). if b then x ∷ over events after (after s x) xs (t - events s x) else []) (lt-leb (events s x) t l)
 
   one_over : (s : S) (x : X) (xs : List X) (t n : ℕ) → events s x ≤ t → t - events s x ≡ n → over events after s (x ∷ xs) t ≡ x ∷ over events after (after s x) xs n
-  one_over s x xs t n l e =
-      ap (λ (b : Bool). if b then x ∷ over events after (after s x) xs (t - events s x) else []) (le-leb (events s x) t l) ∙
-      ap (λ n. x ∷ over events after (after s x) xs n) e
+  one_over s x xs t n l e = grind (arith, le-leb)
 
   -- within no event no call is over
   over_at_first : ((s : S) (x : X) → 2 ≤ events s x) → (s : S) (xs : List X) → over events after s xs 0 ≡ []
@@ -94,14 +78,10 @@ module _ {S X : Type 0} (events : S → X → ℕ) (after : S → X → S) (begi
   behind_one :
       (j : ℕ) (s : S) (x : X) (xs : List X) (i : ℕ) (b w : List X) (t : List Event) → events s x ≤ i → Tells (suc j) (after s x) xs (i - events s x) b w t →
       Tells j s (x ∷ xs) i (x ∷ b) (x ∷ w) t
-  behind_one j s x xs i b w t l (Begins e begun fewer is) =
-      let next : suc j + length b ≡ j + suc (length b) = omega arith in
-      Begins (ap (λ l. x ∷ l) e) (omega (arith, l, begun)) (omega (arith, fewer)) (is ∙ ap (λ n. begins n ∷ []) next)
+  behind_one j s x xs i b w t l (Begins e begun fewer is) = grind arith
   behind_one j s x xs i b w t l (Ends y e under ended is) = Ends y (ap (λ l. x ∷ l) e) (omega (arith, l, under)) (omega (arith, l, ended)) is
   behind_one j s x xs i b w t l (Goes e under within is) = Goes (ap (λ l. x ∷ l) e) (omega (arith, l, under)) (omega (arith, l, within)) is
-  behind_one j s x xs i b w t l (Behind e all past is) =
-      let left : i - events s x - total events after (after s x) xs ≡ i - (events s x + total events after (after s x) xs) = omega arith in
-      Behind (ap (λ l. x ∷ l) e) (ap (λ l. x ∷ l) all) (omega (arith, l, past)) (is ∙ ap last left)
+  behind_one j s x xs i b w t l (Behind e all past is) = grind arith
 
   -- an event of calls of which the first has some events
   at :
@@ -109,13 +89,8 @@ module _ {S X : Type 0} (events : S → X → ℕ) (after : S → X → S) (begi
       Tells (suc j) (after s x) xs (i - events s x) (over events after (after s x) xs (i - events s x)) (over events after (after s x) xs (suc (i - events s x)))
       (told (suc j) (after s x) xs (i - events s x)) →
       Tells j s (x ∷ xs) i (over events after s (x ∷ xs) i) (over events after s (x ∷ xs) (suc i)) (told j s (x ∷ xs) i)
-  at long j s x xs i (IsFirst e) more =
-      let first : j ≡ j + 0 = omega arith in
-      by_same j s (x ∷ xs) i _ [] _ [] _ (begins j ∷ []) (none_over s x xs i (omega (arith, e, long s x))) (none_over s x xs (suc i) (omega (arith, e, long s x)))
-      (first_told (events s x) (begins j) (answer x) i _ (long s x) e) (Begins refl e (omega arith) (ap (λ n. begins n ∷ []) first))
-  at long j s x xs i (IsBetween l m) more =
-      by_same j s (x ∷ xs) i _ [] _ [] _ [] (none_over s x xs i (omega (arith, m))) (none_over s x xs (suc i) m)
-      (between_told (events s x) (begins j) (answer x) i _ l m) (Goes refl l (omega (arith, m)) refl)
+  at long j s x xs i (IsFirst e) more = grind (arith, by_same, none_over, first_told)
+  at long j s x xs i (IsBetween l m) more = grind (arith, by_same, none_over, between_told)
   at long j s x xs i (IsLast l e) more =
       by_same j s (x ∷ xs) i _ [] _ (x ∷ []) _ (answer x ∷ []) (none_over s x xs i (omega (arith, e)))
       (one_over s x xs (suc i) 0 (omega (arith, e)) (omega (arith, e)) ∙ ap (λ l. x ∷ l) (over_at_first long (after s x) xs))
@@ -141,11 +116,7 @@ module _ {S X : Type 0} (events : S → X → ℕ) (after : S → X → S) (begi
   told_so :
       (size : List X → ℕ) (j : ℕ) (s : S) (xs : List X) (i : ℕ) (before with_it : List X) (t : List Event) → ((ys : List X) → total events after s ys ≡ size ys) →
       Tells j s xs i before with_it t → Told size j xs i before with_it t
-  told_so size j s xs i before with_it t is (Begins same at fewer told) = inl (same, at ∙ is before, fewer, told)
-  told_so size j s xs i before with_it t is (Ends x one under at told) = inr (inl (x, one, omega (arith, under, is before), at ∙ is with_it, told))
-  told_so size j s xs i before with_it t is (Goes same under within told) = inr (inr (inl (same, omega (arith, under, is before), omega (arith, within, is xs), told)))
-  told_so size j s xs i before with_it t is (Behind same all past told) =
-      inr (inr (inr (same, all, omega (arith, past, is xs), told ∙ ap (λ n. last (i - n)) (is xs))))
+  told_so size j s xs i before with_it t is h1 = grind (arith, at)
 
   pub tells_so :
       (size : List X → ℕ) → ((s : S) (x : X) → 2 ≤ events s x) → (j : ℕ) (s : S) (xs : List X) (i : ℕ) → ((ys : List X) → total events after s ys ≡ size ys) →

@@ -1,6 +1,6 @@
 //! The auditor of calls with each growth refused in turn, and the numbers of its faults.
 
-use queue_calls::{CallAuditor, Event, Fault, RecordingFault, exactly};
+use queue_calls::{CallAuditor, Event, Fault, RecordingFault, Reply, exactly};
 use refusing::Refusing;
 use std::alloc::AllocGlobal;
 use std::process::Abort;
@@ -13,9 +13,9 @@ fn a_refused_growth_leaves_the_auditor(rt: HostRuntime) -> Result<(), Fail> {
     assert!(rt; auditor.feed(Event::PutBegins(&[1, 2, 3])) == Err(Fault::OutOfMemory));
     for event in [
         Event::PutBegins(&[1, 2, 3]),
-        Event::PutStored(3),
+        Event::PutEnds(Reply::Passed(3)),
         Event::TakeBegins(2),
-        Event::TakeItems(&[1, 2]),
+        Event::TakeEnds(Reply::Passed(&[1, 2])),
     ] {
         assert!(rt; auditor.feed(event) == Ok(()));
     }

@@ -3,7 +3,7 @@
 use crate::tests::recordings::{ITEM_1_NOT_INSIDE, LAWFUL, NOT_PUT, REFUSED, TEXT};
 use queue_calls::{
     CallAuditor, CallsFinding, Event, Fault, Filled, Lent, Lists, Offered, RecordingFault,
-    RecordingIn, Slots, Taken, exactly,
+    RecordingIn, Reply, Slots, Taken, exactly,
 };
 use std::process::Abort;
 use std::test::Fail;
@@ -12,15 +12,18 @@ use std::test::Fail;
 static FED: [(Event<'static>, Result<(), Fault>); 11] = [
     (Event::PutBegins(&[1, 2, 3]), Err(Fault::OutOfMemory)),
     (Event::PutBegins(&[1, 2]), Ok(())),
-    (Event::PutStored(2), Ok(())),
+    (Event::PutEnds(Reply::Passed(2)), Ok(())),
     (Event::PutBegins(&[3]), Err(Fault::OutOfMemory)),
     (Event::TakeBegins(1), Ok(())),
-    (Event::TakeItems(&[1]), Ok(())),
+    (Event::TakeEnds(Reply::Passed(&[1])), Ok(())),
     (Event::PutBegins(&[3]), Ok(())),
-    (Event::PutStored(1), Ok(())),
+    (Event::PutEnds(Reply::Passed(1)), Ok(())),
     (Event::TakeBegins(2), Ok(())),
-    (Event::TakeItems(&[2, 4]), Err(Fault::NotLinearizable)),
-    (Event::TakeItems(&[2, 3]), Ok(())),
+    (
+        Event::TakeEnds(Reply::Passed(&[2, 4])),
+        Err(Fault::NotLinearizable),
+    ),
+    (Event::TakeEnds(Reply::Passed(&[2, 3])), Ok(())),
 ];
 
 #[test]
@@ -41,13 +44,13 @@ fn many_items_go_round_the_slots(rt: HostRuntime) -> Result<(), Fail> {
         let items = [turn, turn + 100, turn + 200];
         for event in [
             Event::PutBegins(&items[..2]),
-            Event::PutStored(2),
+            Event::PutEnds(Reply::Passed(2)),
             Event::TakeBegins(1),
-            Event::TakeItems(&items[..1]),
+            Event::TakeEnds(Reply::Passed(&items[..1])),
             Event::PutBegins(&items[2..]),
-            Event::PutStored(1),
+            Event::PutEnds(Reply::Passed(1)),
             Event::TakeBegins(2),
-            Event::TakeItems(&items[1..]),
+            Event::TakeEnds(Reply::Passed(&items[1..])),
         ] {
             assert!(rt; auditor.feed(event) == Ok(()));
         }

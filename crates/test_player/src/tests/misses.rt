@@ -4,6 +4,7 @@ use crate::tests::play_scripts::{Asked, Numbers, ONE, expect, script_of};
 use crate::tests::refusals::{Played, refusals};
 use bits_core::{Verdict, audit_bits};
 use near_misses::{NearCall, NearFault, NearMiss, play_near};
+use queue_calls::Reply;
 use refusing::Refusing;
 use ring_player::play;
 use std::alloc::{AllocGlobal, Global};
@@ -12,10 +13,20 @@ use std::process::Abort;
 // What a near miss should record of a script, and the items taken.
 type Near<'a> = (NearMiss, Numbers, Asked<'a>, &'a [NearCall], &'a [u64]);
 
-// A near miss and a script; what is recorded, with a number in brackets; and the items taken.
+// What is recorded, with its reply if it ends a put or a take, and a number in brackets.
+macro_rules! call {
+    ($call:ident $(($number:literal))?) => {
+        NearCall::$call $(($number))?
+    };
+    ($call:ident $reply:ident $(($number:literal))?) => {
+        NearCall::$call(Reply::$reply $(($number))?)
+    };
+}
+
+// A near miss and a script; what is recorded; and the items taken.
 macro_rules! near {
-    ($miss:ident, $shape:expr, $asked:expr; $($call:ident $(($number:literal))?),*; $taken:expr) => {
-        (NearMiss::$miss, $shape, $asked, &[$(NearCall::$call $(($number))?),*], $taken)
+    ($miss:ident, $shape:expr, $asked:expr; $($call:ident $($reply:ident)? $(($number:literal))?),*; $taken:expr) => {
+        (NearMiss::$miss, $shape, $asked, &[$(call!($call $($reply)? $(($number))?)),*], $taken)
     };
 }
 
@@ -26,35 +37,35 @@ const OVERWRITTEN: Asked<'static> = ("[1,2,3,5,4]", 4, false, "P24C21P36C27", "0
 static CASES: [Near<'static>; 9] = [
     // The count write spans the take, which reads the cell before the item is there: 0 for 1.
     near!(CountBeforeCell, ONE, ("[1]", 1, false, "P5C10", "");
-        PutBegins(0), TakeBegins(1), TakeItems(1); &[0]),
+        PutBegins(0), TakeBegins(1), TakeEnds Passed(1); &[0]),
     // Item 1 is stored, and the take that began before returns Closed.
     near!(NoSecondScan, ONE, ("[1]", 2, true, "C2P10C2", "");
-        TakeBegins(1), PutBegins(0), PutStored(1), CloseBegins, CloseEnds, TakeClosed; &[]),
+        TakeBegins(1), PutBegins(0), PutEnds Passed(1), CloseBegins, CloseEnds, TakeEnds Shut; &[]),
     // The count write is open: it is seen new, and then old, which looks like one more round, and item 1 is taken twice.
     near!(SmallModulus, [1, 3, 2, 1, 1], ("[1,2,3]", 3, false, "P9C20", "01");
-        PutBegins(0), TakeBegins(1), TakeItems(1), TakeBegins(1), TakeItems(1); &[1, 1]),
+        PutBegins(0), TakeBegins(1), TakeEnds Passed(1), TakeBegins(1), TakeEnds Passed(1); &[1, 1]),
     // The fifth put has cleared s0 and not yet set s1, so a scan finds s3, which was set a round ago: Empty, with the fourth item inside.
     near!(ClearsFirst, [2, 4, 2, 1, 1], ("[1,2,3,1,2]", 5, false, "P10C12P12C14P14C16P27C10", "");
-        PutBegins(0), PutStored(1), TakeBegins(1), TakeItems(1), PutBegins(1), PutStored(1), TakeBegins(1),
-        TakeItems(1), PutBegins(2), PutStored(1), TakeBegins(1), TakeItems(1), PutBegins(3), PutStored(1),
-        PutBegins(4), TakeBegins(1), TakeEmpty; &[1, 2, 3]),
+        PutBegins(0), PutEnds Passed(1), TakeBegins(1), TakeEnds Passed(1), PutBegins(1), PutEnds Passed(1), TakeBegins(1),
+        TakeEnds Passed(1), PutBegins(2), PutEnds Passed(1), TakeBegins(1), TakeEnds Passed(1), PutBegins(3), PutEnds Passed(1),
+        PutBegins(4), TakeBegins(1), TakeEnds Lacked; &[1, 2, 3]),
     // If nothing overlaps, it is as with a ring: a batch of two, of which the second put finds room for one.
     near!(ClearsUpwards, [3, 6, 2, 2, 1], ("[1,2,3,1]", 1, false, "P26", "");
-        PutBegins(0), PutStored(2), PutBegins(2), PutStored(1), PutBegins(3), PutFull; &[]),
+        PutBegins(0), PutEnds Passed(2), PutBegins(2), PutEnds Passed(1), PutBegins(3), PutEnds Lacked; &[]),
     near!(SmallModulus, [2, 5, 3, 1, 2], OVERWRITTEN;
-        PutBegins(0), PutStored(1), PutBegins(1), PutStored(1), TakeBegins(2), PutBegins(2), PutStored(1),
-        PutBegins(3), PutStored(1), PutBegins(4), TakeItems(2), TakeBegins(2), TakeItems(2); &[1, 2, 0, 5]),
+        PutBegins(0), PutEnds Passed(1), PutBegins(1), PutEnds Passed(1), TakeBegins(2), PutBegins(2), PutEnds Passed(1),
+        PutBegins(3), PutEnds Passed(1), PutBegins(4), TakeEnds Passed(2), TakeBegins(2), TakeEnds Passed(2); &[1, 2, 0, 5]),
     // One item is there, of two that the take asks for, and then none: a take that finds the ring empty uses up one of three, and the last
     // one asks for what is left.
     near!(ClearsUpwards, [2, 5, 1, 1, 2], ("[1,0]", 3, false, "P8C16P10C12", "");
-        PutBegins(0), PutStored(1), TakeBegins(2), TakeItems(1), TakeBegins(2), TakeEmpty, PutBegins(1),
-        PutStored(1), TakeBegins(1), TakeItems(1); &[1, 0]),
+        PutBegins(0), PutEnds Passed(1), TakeBegins(2), TakeEnds Passed(1), TakeBegins(2), TakeEnds Lacked, PutBegins(1),
+        PutEnds Passed(1), TakeBegins(1), TakeEnds Passed(1); &[1, 0]),
     // The last event of the count write is missing, so the take has not ended, and its items are not recorded.
     near!(CountBeforeCell, [2, 5, 1, 1, 2], ("[1,1]", 2, false, "P16C13", "");
-        PutBegins(0), PutStored(1), PutBegins(1), PutStored(1), TakeBegins(2); &[]),
+        PutBegins(0), PutEnds Passed(1), PutBegins(1), PutEnds Passed(1), TakeBegins(2); &[]),
     // With its last event it has.
     near!(CountBeforeCell, [2, 5, 1, 1, 2], ("[1,1]", 2, false, "P16C14", "");
-        PutBegins(0), PutStored(1), PutBegins(1), PutStored(1), TakeBegins(2), TakeItems(2); &[1, 1]),
+        PutBegins(0), PutEnds Passed(1), PutBegins(1), PutEnds Passed(1), TakeBegins(2), TakeEnds Passed(2); &[1, 1]),
 ];
 
 fn expect_told(rt: &(impl Abort + AllocGlobal), cases: &[Near]) {

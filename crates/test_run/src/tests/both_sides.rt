@@ -5,7 +5,7 @@ ghost use Rattle.std.specs.Prelude.{◌<◌};
 use crate::tests::expects::{ITEMS, KINDS, Kind, Numbers, SHAPES, expect, expect_relay, shape_of};
 use crate::tests::recordings::slots;
 use bits_core::Side;
-use queue_calls::{CallAuditor, Event, Word, exactly};
+use queue_calls::{CallAuditor, Event, Reply, Word, exactly};
 use ring_run::{CounterRing, Gate, Limits, Outcome, Recorder, YieldGate, relay};
 use std::alloc::{AllocGlobal, Global};
 use std::process::Abort;
@@ -16,14 +16,16 @@ use std::thread::Threads;
 fn event_of(word: Word, numbers: &[u64], offered: usize) -> Event<'_> {
     match word {
         Word::Put => Event::PutBegins(numbers),
-        Word::Stored => Event::PutStored(numbers.first().map_or(offered, |it| *it as usize)),
-        Word::Full => Event::PutFull,
+        Word::Stored => Event::PutEnds(Reply::Passed(
+            numbers.first().map_or(offered, |it| *it as usize),
+        )),
+        Word::Full => Event::PutEnds(Reply::Lacked),
         Word::Close => Event::CloseBegins,
         Word::PutClosed => Event::CloseEnds,
         Word::Take => Event::TakeBegins(1),
-        Word::Item => Event::TakeItems(numbers),
-        Word::Empty => Event::TakeEmpty,
-        _ => Event::TakeClosed,
+        Word::Item => Event::TakeEnds(Reply::Passed(numbers)),
+        Word::Empty => Event::TakeEnds(Reply::Lacked),
+        _ => Event::TakeEnds(Reply::Shut),
     }
 }
 
@@ -57,17 +59,19 @@ impl Tally {
         let one = |count: &mut u64| *count = count.saturating_add(1);
         match event {
             Event::PutBegins(_) => one(&mut self.puts),
-            Event::PutStored(more) => self.stored = self.stored.saturating_add(more as u64),
-            Event::PutFull => one(&mut self.full),
+            Event::PutEnds(Reply::Passed(more)) => self.stored = self
+                .stored
+                .saturating_add(more as u64),
+            Event::PutEnds(Reply::Lacked) => one(&mut self.full),
             Event::CloseEnds => one(&mut self.closes),
             Event::TakeBegins(_) => one(&mut self.takes),
-            Event::TakeItems(items) => {
+            Event::TakeEnds(Reply::Passed(items)) => {
                 let is_next = items.len() == 1 && items.first() == Some(&self.taken);
                 one(&mut self.taken);
                 return is_next;
             }
-            Event::TakeEmpty => one(&mut self.empty),
-            Event::TakeClosed => one(&mut self.told),
+            Event::TakeEnds(Reply::Lacked) => one(&mut self.empty),
+            Event::TakeEnds(Reply::Shut) => one(&mut self.told),
             _ => {}
         }
         true
@@ -185,7 +189,7 @@ impl Watch<'_> {
                 add(&self.ended, 1);
                 self.expect_word(CLOSE_WORD, 1);
             }
-            Event::PutStored(count) => {
+            Event::PutEnds(Reply::Passed(count)) => {
                 add(&self.ended, 1);
                 add(&self.stored, count as u64);
             }
@@ -196,14 +200,14 @@ impl Watch<'_> {
 
     fn hears_take(&self, event: Event<'_>) {
         match event {
-            Event::TakeItems(items) => {
+            Event::TakeEnds(Reply::Passed(items)) => {
                 let next = self.taken.load(Ordering::SeqCst);
                 if items != [next].as_slice() {
                     self.is_wrong.store(true, Ordering::SeqCst);
                 }
                 add(&self.taken, 1);
             }
-            Event::TakeClosed => self.expect_word(CLOSE_WORD, 1),
+            Event::TakeEnds(Reply::Shut) => self.expect_word(CLOSE_WORD, 1),
             _ => {}
         }
         self.expect_count(TAKE_WORD, &self.taken);

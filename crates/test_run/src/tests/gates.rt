@@ -4,7 +4,7 @@ use crate::tests::expects::{
     shape_of,
 };
 use bits_core::Side;
-use queue_calls::Event;
+use queue_calls::{Event, Reply};
 use ring_run::{Gate, Limits, Outcome, RestGate, YieldGate};
 use std::alloc::{AllocGlobal, Allocator};
 use std::hint::spin_loop;
@@ -252,8 +252,8 @@ impl Gate for InTurn {
 
     fn hears(&self, event: Event<'_>) {
         match event {
-            Event::PutStored(_) | Event::PutFull => self.ended(Side::P),
-            Event::TakeItems(_) | Event::TakeEmpty | Event::TakeClosed => self.ended(Side::C),
+            Event::PutEnds(Reply::Passed(_) | Reply::Lacked) => self.ended(Side::P),
+            Event::TakeEnds(Reply::Passed(_) | Reply::Lacked | Reply::Shut) => self.ended(Side::C),
             _ => {}
         }
     }
@@ -356,10 +356,10 @@ impl Gate for Telling {
 
     fn hears(&self, event: Event<'_>) {
         match event {
-            Event::PutStored(_) => self.putter.ended(false),
-            Event::PutFull => self.putter.ended(true),
-            Event::TakeItems(_) | Event::TakeClosed => self.taker.ended(false),
-            Event::TakeEmpty => self.taker.ended(true),
+            Event::PutEnds(Reply::Passed(_)) => self.putter.ended(false),
+            Event::PutEnds(Reply::Lacked) => self.putter.ended(true),
+            Event::TakeEnds(Reply::Passed(_) | Reply::Shut) => self.taker.ended(false),
+            Event::TakeEnds(Reply::Lacked) => self.taker.ended(true),
             _ => {}
         }
     }

@@ -1,6 +1,6 @@
 //! What a recorder records of a relay in which one side makes no call, so that its lines are the same for every schedule.
 use crate::tests::expects::{Kind, Numbers, expect_relay};
-use queue_calls::{Event, Word};
+use queue_calls::{Event, Reply, Word};
 use ring_run::{Gate, Limits, RecordedLines, Recorder, Slot};
 use std::alloc::AllocGlobal;
 use std::process::Abort;
@@ -105,9 +105,9 @@ fn a_recording_ends_where_its_room_does(rt: HostRuntime) {
 // Gives the recorder a put and a take of one of these items.
 fn tell_one(recorder: &Recorder<'_>, items: &[u64]) {
     recorder.hears(Event::PutBegins(items));
-    recorder.hears(Event::PutStored(1));
+    recorder.hears(Event::PutEnds(Reply::Passed(1)));
     recorder.hears(Event::TakeBegins(1));
-    recorder.hears(Event::TakeItems(items));
+    recorder.hears(Event::TakeEnds(Reply::Passed(items)));
 }
 
 // Gives the recorder the calls of both sides.

@@ -1,6 +1,8 @@
 //! Uses of plays, of histories that are audited, and of recorded calls.
 use bits_core::{Act, Bit, Event, Shape, Side};
-use queue_calls::{CallsFinding, Event as Call, Filled, Lent, Lists, Offered, Slots, Taken, Word};
+use queue_calls::{
+    CallsFinding, Event as Call, Filled, Lent, Lists, Offered, Reply, Slots, Taken, Word,
+};
 use ring_audit::audit;
 use std::alloc::AllocGlobal;
 use std::rt::HostRuntime;
@@ -75,9 +77,9 @@ fn a_finding_is_told_in_words(rt: HostRuntime) -> Result<(), Fail> {
 fn calls_are_audited(rt: HostRuntime) -> Result<(), Fail> {
     let calls = [
         Call::PutBegins(&[5]),
-        Call::PutStored(1),
+        Call::PutEnds(Reply::Passed(1)),
         Call::TakeBegins(1),
-        Call::TakeEmpty,
+        Call::TakeEnds(Reply::Lacked),
     ];
     assert_eq!(rt; first_at_fault(rt.alloc(), 8, &calls)?, Some(3));
     assert_eq!(rt; first_at_fault(rt.alloc(), 8, &calls[..3])?, None);

@@ -1,12 +1,10 @@
-use Rattle.std.proofs.Common.{refl}
-use Rattle.ring_ends.proofs.MachineMoves.{begun, can_there, ended, one_there, right_there}
+use Rattle.std.proofs.Common.{arith, refl}
+use Rattle.ring_ends.proofs.MachineMoves.{begun, can_there, ended, one_there}
 use Rattle.ring_ends.proofs.MachineWhole.{answered_nothing}
 use Rattle.ring_ends.proofs.calls.advance.Goals as goal
 
 pub step-requires-clause-right : goal.step-requires-clause-right
-step-requires-clause-right g c =
-    let k = g.M.SideMachine in
-    right_there k.kind c.args.stepper.now (k.state c.args.machine.now) c.requires.at.0 c.requires.at.1 c.requires.at.2 c.in-Some.access c.in-Some.ensures
+step-requires-clause-right g c = grind arith
 
 pub step-requires-clause-can : goal.step-requires-clause-can
 step-requires-clause-can g c =
@@ -21,12 +19,7 @@ feed-requires g c =
     )
 
 pub returns-in-None-clause-stepped : goal.returns-in-None-clause-stepped
-returns-in-None-clause-stepped g c = record {
-  kind = refl;
-  rests = λ _. (refl, refl);
-  steps = λ calls made at call busy. absurd (c.laws.ensures.never (g.M.SideMachine.state c.args.machine.now) call (c.in-None.ensures calls made at.stands) busy);
-  answered = answered_nothing c.args.stepper.now (g.O.Oracle.answers c.args.oracle.now);
-}
+returns-in-None-clause-stepped g c = grind (arith, answered_nothing, c.args.machine.now, c.args.oracle.now, c.args.stepper.now, c.in-None.ensures, c.laws.ensures.never, g.M.SideMachine.state, g.O.Oracle.answers)
 
 pub returns-in-None-step-clause-stepped : goal.returns-in-None-step-clause-stepped
 returns-in-None-step-clause-stepped g c =

@@ -1,4 +1,4 @@
-use Rattle.std.proofs.Common.{arith}
+use Rattle.std.proofs.Common.{rules, arith}
 use Rattle.ring_ends.specs.Machines.{MachineBusy, MachineWent}
 use Rattle.ring_ends.proofs.Accesses.{longer}
 use Rattle.ring_ends.proofs.MachineWhole.{access_can, access_feeds, access_right, access_went, below, ended_by, ready_busy, went_busy, went_nowhere, went_then}
@@ -13,23 +13,16 @@ busy g c = ready_busy g.M.SideMachine.kind c.args.stepper.now (g.M.SideMachine.s
 -- the result of the accesses of scan, word and count
 so_far : (g : Over) (c : After-write_count g) →
     MachineWent g.M.SideMachine.kind c.args.stepper.now (g.M.SideMachine.state c.args.machine.now) c.write_count.new.stepper (g.M.SideMachine.state c.write_count.new.machine) (g.O.Oracle.answers c.args.oracle.now) (g.O.Oracle.answers c.write_count.new.oracle)
-so_far g c =
-    went_then g.M.SideMachine.kind (went_then g.M.SideMachine.kind (went_then g.M.SideMachine.kind c.accesses.invariant c.finish_scan.ensures) c.finish_word.ensures) c.write_count.ensures
+so_far g c = search (rules, went_then)
 
 pub finish_scan-requires : goal.finish_scan-requires
-finish_scan-requires g c =
-    let k = g.M.SideMachine in
-    went_busy k.kind c.laws.ensures c.accesses.invariant (ready_busy k.kind c.args.stepper.now (k.state c.args.machine.now) c.requires.0 c.requires.1)
+finish_scan-requires g c = search (rules, ready_busy, went_busy)
 
 pub finish_word-requires : goal.finish_word-requires
-finish_word-requires g c =
-    let k = g.M.SideMachine in
-    went_busy k.kind c.laws.ensures (went_then k.kind c.accesses.invariant c.finish_scan.ensures) (ready_busy k.kind c.args.stepper.now (k.state c.args.machine.now) c.requires.0 c.requires.1)
+finish_word-requires g c = search (rules, ready_busy, went_busy, went_then)
 
 pub write_count-requires : goal.write_count-requires
-write_count-requires g c =
-    let k = g.M.SideMachine in
-    went_busy k.kind c.laws.ensures (went_then k.kind (went_then k.kind c.accesses.invariant c.finish_scan.ensures) c.finish_word.ensures) (ready_busy k.kind c.args.stepper.now (k.state c.args.machine.now) c.requires.0 c.requires.1)
+write_count-requires g c = search (rules, ready_busy, went_busy, went_then)
 
 pub make-answer-requires-clause-right : goal.make-answer-requires-clause-right
 make-answer-requires-clause-right g c =

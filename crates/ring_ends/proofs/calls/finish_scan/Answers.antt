@@ -1,4 +1,4 @@
-use Rattle.std.proofs.Common.{Bool, sym, subst, ◌∙◌}
+use Rattle.std.proofs.Common.{arith, Bool, sym, subst, ◌∙◌}
 use Rattle.ring_ends.specs.Moves.{Fed, MayFeed}
 use Rattle.ring_ends.proofs.Accesses.{same}
 use Rattle.ring_ends.proofs.MachineWhole.{access_can, access_feeds, access_right, access_went, part_begins, went_nowhere}
@@ -11,12 +11,7 @@ pub make-answer-requires-clause-can : goal.make-answer-requires-clause-can
 make-answer-requires-clause-can g c = access_can g.M.SideMachine.kind c.laws.ensures c.requires c.reads.invariant.1 c.scan_next-access.result c.scan_next-access.ensures.due
 
 pub end_scan-requires : goal.end_scan-requires
-end_scan-requires g c =
-    let k = g.M.SideMachine in record {
-      feeds = subst (MayFeed k.kind (k.scanned c.reads.scan)) c.if-answer.true
-          (access_feeds k.kind c.laws.ensures c.requires c.reads.invariant.1 c.scan_next-access.result c.scan_next-access.ensures.due c.make-answer.new.self c.make-answer.result c.make-answer.ensures.made);
-      of = c.reads.invariant.2;
-    }
+end_scan-requires g c = grind arith
 
 pub returns-then-answer : goal.returns-then-answer
 returns-then-answer g c =

@@ -1,4 +1,4 @@
-use Rattle.std.proofs.Common.{◌≡◌, ◌+◌, ◌%◌, length, ap, ◌∙◌}
+use Rattle.std.proofs.Common.{rules, ◌≡◌, ◌+◌, ◌%◌, length, ap, ◌∙◌}
 use Rattle.bits_core.specs.Shape.{capacity_of, modulus_of}
 use Rattle.ring_core.specs.ConsumerCalls.{items_reply}
 use Rattle.ring_seats.proofs.CounterSteps.{same_shape}
@@ -6,9 +6,7 @@ use Rattle.ring_ends.proofs.CounterTakerCalls.{to_read, to_count, fetched, kept_
 use Rattle.ring_ends.proofs.counter_calls.fetch_all.Goals as goal
 
 pub read_items-requires-clause-program : goal.read_items-requires-clause-program
-read_items-requires-clause-program c items long fits =
-    let r = c.requires.at in
-    to_read r.0 c.args.stepper.now c.args.count.now c.args.cell.now r.1 r.2 (length c.args.into.now) r.3 items long fits
+read_items-requires-clause-program c items long fits = search (rules, to_read)
 
 pub write_count-requires-clause-program : goal.write_count-requires-clause-program
 write_count-requires-clause-program c =

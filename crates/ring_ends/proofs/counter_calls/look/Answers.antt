@@ -1,4 +1,4 @@
-use Rattle.std.proofs.Common.{◌≡◌, true≢false, sym, subst, ◌∙◌}
+use Rattle.std.proofs.Common.{arith, rules, ◌≡◌, true≢false, sym, subst, ◌∙◌}
 use Rattle.bits_core.specs.declared.shapes.Shape.{Shape}
 use Rattle.ring_core.specs.Counts.{ShowsItem}
 use Rattle.ring_ends.proofs.CounterTakerCalls.{to_scan, found_once, to_ask, found_empty, to_rescan, found_twice, found_closed, ShownOf}
@@ -8,26 +8,18 @@ use Rattle.ring_ends.proofs.counter_calls.look.Goals as goal
 shown_so :
     (c : goal.After-items_shown) → c.shape-shape.result ≡ c.args.stepper.now.ring.shape →
     ShownOf c.args.stepper.now.ring.shape c.scan-seen.result c.args.count c.args.wanted c.items_shown.result
-shown_so c shape =
-    let e = c.items_shown.ensures in
-    subst (λ (s : Shape). ShownOf s c.scan-seen.result c.args.count c.args.wanted c.items_shown.result) shape
-    (record { shows = c.has_item.ensures.0 c.if-has_item.true; some = e.some; few = e.few; shown = e.shown; all = e.all })
+shown_so c shape = grind arith
 
 shown_again :
     (c : goal.After-items_shown-then-has_item-2) → c.shape-shape.result ≡ c.args.stepper.now.ring.shape →
     ShownOf c.args.stepper.now.ring.shape c.scan-again.result c.args.count c.args.wanted c.items_shown-then-has_item-2.result
-shown_again c shape =
-    let e = c.items_shown-then-has_item-2.ensures in
-    subst (λ (s : Shape). ShownOf s c.scan-again.result c.args.count c.args.wanted c.items_shown-then-has_item-2.result) shape
-    (record { shows = c.has_item-2.ensures.0 c.if-has_item-2.true; some = e.some; few = e.few; shown = e.shown; all = e.all })
+shown_again c shape = grind arith
 
 pub scan-seen-requires : goal.scan-seen-requires
 scan-seen-requires c = record { program = to_scan c.args.stepper.now c.args.count c.args.cell c.args.wanted c.requires.at.0 c.requires.at.1 c.requires.at.2 }
 
 pub returns-then-has_item : goal.returns-then-has_item
-returns-then-has_item c =
-    let shape : c.shape-shape.result ≡ c.args.stepper.now.ring.shape = c.shape-shape.ensures in
-    λ calls at opened. found_once c.args.stepper.now c.args.count c.args.cell c.args.wanted calls at opened c.scan-seen.result c.scan-seen.ensures.below c.scan-seen.new.self c.scan-seen.ensures.grows c.items_shown.result (shown_so c shape)
+returns-then-has_item c = search (rules, found_once, shown_so)
 
 pub read_close-requires-clause-program : goal.read_close-requires-clause-program
 read_close-requires-clause-program c =

@@ -12,9 +12,7 @@ shape_is c = c.shape-shape.ensures
 
 -- as many are stored as fit
 fit : (c : After-fitting-most) → Fitting c.args.stepper.now.ring.shape c.args.count.now c.scan-seen.result c.args.items.now c.fitting-most.result
-fit c =
-    let e = c.fitting-most.ensures in
-    subst (λ (s : Shape). Fitting s c.args.count.now c.scan-seen.result c.args.items.now c.fitting-most.result) (shape_is c) (record { few = e.few; room = e.room; all = e.all })
+fit c = grind arith
 
 pub scan-seen-requires : goal.scan-seen-requires
 scan-seen-requires c = record { program = to_scan c.args.stepper.now c.args.count.now c.args.cell.now c.args.items.now c.requires.at.0 c.requires.at.1 c.requires.at.2 c.requires.batch }

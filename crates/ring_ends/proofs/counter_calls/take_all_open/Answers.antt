@@ -1,12 +1,12 @@
-use Rattle.std.proofs.Common.{◌≡◌, ℕ, ◌≤◌, Some, List, [], ◌∷◌, length, take, drop, refl, sym, subst, ap, ◌∙◌, arith}
+use Rattle.std.proofs.Common.{◌≡◌, ℕ, ◌≤◌, Some, List, [], length, take, drop, refl, sym, ◌∙◌, arith}
 use Rattle.std.proofs.lemmas.List.{take_at}
 use Rattle.ring_core.specs.declared.replies.TakeBatchReply.TheVariants.{Taken}
 use Rattle.bits_core.specs.Shape.{take_batch_of}
 use Rattle.ring_core.specs.Takes.{Takes, Open}
-use Rattle.ring_core.specs.ConsumerCalls.{count_taken, take_batch_reply, items_reply}
+use Rattle.ring_core.specs.ConsumerCalls.{take_batch_reply, items_reply}
 use Rattle.ring_ends.specs.declared.counter_calls.Scanned.TheVariants.{Shows}
 use Rattle.ring_seats.specs.Ring.{RingEnd}
-use Rattle.ring_ends.specs.CounterEnds.{TakerList, LookMade, HasFound, HasLooked}
+use Rattle.ring_ends.specs.CounterEnds.{TakerList, LookMade, HasLooked}
 use Rattle.ring_seats.proofs.CounterPuts.{length-first}
 use Rattle.ring_ends.proofs.CounterTakerCalls.{few_found, kept_none}
 use Rattle.ring_ends.proofs.counter_calls.take_all_open.Goals as goal
@@ -15,14 +15,11 @@ use Rattle.ring_ends.proofs.counter_calls.take_all_open.Goals as goal
 looked :
     (a b : RingEnd) (count cell : ℕ) (calls : Takes) (into : List ℕ) (most : ℕ) → TakerList a count cell calls → calls.end ≡ Open → length into ≤ take_batch_of a.ring.shape →
     LookMade a b calls (length into) (Shows most) → (length (take most into) ≡ most) × HasLooked a b count cell calls (length into) (length (take most into))
-looked a b count cell calls into most at opened few (look, found) =
-    let long : length (take most into) ≡ most = length-first most into (few_found a.ring.shape (count_taken a.ring.shape calls).number (length into) most look found.finds) in
-    (long, record { at = at; opened = opened; few = few; look = look; found = subst (HasFound a b calls (length into) look) (sym long) found })
+looked a b count cell calls into most at opened few (look, found) = grind (arith, few_found, length-first)
 
 -- a number of items is determined by their list, and they are the first of the places that they were put into
 told : (items : List ℕ) (most : ℕ) → 1 ≤ most → length items ≡ most → Some (Taken most) ≡ take_batch_reply (Some (items_reply items)) items
-told [] most some long = absurd (omega (arith, some, long))
-told (item ∷ items) most some long = ap (λ (n : ℕ). Some (Taken n)) (sym long)
+told items most h1 h2 = grind arith
 
 pub fetch_all-requires : goal.fetch_all-requires
 fetch_all-requires c =

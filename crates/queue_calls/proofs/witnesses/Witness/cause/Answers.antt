@@ -1,4 +1,4 @@
-use Rattle.std.proofs.Common.{◌≡◌, inl, inr, ℕ, ◌+◌, Some, None, List, [], ◌∷◌, ◌++◌, length, refl, sym, ap, subst, ◌∙◌, reverse, arith}
+use Rattle.std.proofs.Common.{◌≡◌, inl, inr, ℕ, ◌+◌, Some, None, List, [], ◌∷◌, ◌++◌, length, refl, sym, ap, subst, ◌∙◌, reverse}
 use Rattle.std.proofs.lemmas.Option.{none-some}
 use Rattle.std.specs.Borrow.{Bor}
 use Rattle.queue_calls.specs.Queue.{Capacity}
@@ -9,13 +9,11 @@ use Rattle.queue_calls.specs.State.{sides_of}
 use Rattle.queue_calls.specs.Told.{told}
 use Rattle.queue_calls.specs.Witnesses.{Remembers}
 use Rattle.call_causes.specs.declared.causes.Cause.{Cause}
-use Rattle.call_causes.specs.declared.causes.Cause.TheVariants.{ClosedWithoutClose, NotStoredButTaken}
 use Rattle.call_causes.specs.declared.entries.Offered.{Offered}
 use Rattle.call_causes.specs.declared.entries.Taken.{Taken}
 use Rattle.queue_calls.specs.declared.events.CallEvent.{CallEvent}
 use Rattle.queue_calls.specs.declared.witnesses.Witness.{Witness}
 use Rattle.queue_calls.proofs.CauseFound.{fault_has_a_cause}
-use Rattle.queue_calls.proofs.CauseTold.{told_else, told_last}
 use Rattle.queue_calls.proofs.Remembering.{in_turn, linear_of}
 use Rattle.queue_calls.proofs.witnesses.Witness.cause.Goals as goal
 
@@ -33,53 +31,13 @@ heard {event = event} offered last w line result is tells capacity events r numb
     let speaks' = subst (λ z. cause_of w.limit capacity (told z) (reverse events) ≡ Some cause) is speaks in
     subst (λ z. IsCause w.limit capacity events (told event) z) (sym (tells capacity events cause r number t moves' speaks')) speaks
 
-pub returns-in-PutStored : goal.returns-in-PutStored
-returns-in-PutStored g c =
-    heard g.S.Offered.Fifo.items g.S.Taken.Fifo.items c.args.self.now c.args.line c.stored_cause.result c.in-PutStored.is (λ capacity events cause r number t m is. c.stored_cause.ensures capacity events cause r m.0 m.1 m.3 is)
+pub returns-in-PutEnds : goal.returns-in-PutEnds
+returns-in-PutEnds g c =
+    heard g.S.Offered.Fifo.items g.S.Taken.Fifo.items c.args.self.now c.args.line c.put_cause.result c.in-PutEnds.is (λ capacity events cause r number t m is. c.put_cause.ensures capacity events cause t r m is)
 
-pub returns-in-PutSome : goal.returns-in-PutSome
-returns-in-PutSome g c =
-    heard g.S.Offered.Fifo.items g.S.Taken.Fifo.items c.args.self.now c.args.line c.stored_cause-in-PutSome.result c.in-PutSome.is (λ capacity events cause r number t m is. c.stored_cause-in-PutSome.ensures capacity events cause r m.0 m.1 m.3 is)
-
-pub returns-in-PutFull : goal.returns-in-PutFull
-returns-in-PutFull g c =
-    heard g.S.Offered.Fifo.items g.S.Taken.Fifo.items c.args.self.now c.args.line c.full_cause.result c.in-PutFull.is (λ capacity events cause r number t m is. c.full_cause.ensures capacity events cause r m.0 m.1 is)
-
-pub returns-in-PutShort : goal.returns-in-PutShort
-returns-in-PutShort g c =
-    heard g.S.Offered.Fifo.items g.S.Taken.Fifo.items c.args.self.now c.args.line c.put_short_cause.result c.in-PutShort.is (λ capacity events cause r number t m is. c.put_short_cause.ensures capacity events cause r m.0 m.1 is)
-
-pub returns-in-PutNothing : goal.returns-in-PutNothing
-returns-in-PutNothing g c =
-    heard g.S.Offered.Fifo.items g.S.Taken.Fifo.items c.args.self.now c.args.line (NotStoredButTaken c.args.self.now.last_taken) c.in-PutNothing.is (λ capacity events cause r number t m is. ap NotStoredButTaken r.taken_last ∙ told_last _ _ cause is)
-
-pub returns-in-PutClosed : goal.returns-in-PutClosed
-returns-in-PutClosed g c = heard g.S.Offered.Fifo.items g.S.Taken.Fifo.items c.args.self.now c.args.line ClosedWithoutClose c.in-PutClosed.is (λ capacity events cause r number t m is. told_else _ _ cause is)
-
-pub returns-in-TakeItems : goal.returns-in-TakeItems
-returns-in-TakeItems g c =
-    heard g.S.Offered.Fifo.items g.S.Taken.Fifo.items c.args.self.now c.args.line c.items_cause.result c.in-TakeItems.is (λ capacity events cause r number t m is. c.items_cause.ensures capacity events cause r number m.0 m.1 is)
-
-pub returns-in-TakeSome : goal.returns-in-TakeSome
-returns-in-TakeSome g c =
-    heard g.S.Offered.Fifo.items g.S.Taken.Fifo.items c.args.self.now c.args.line c.items_cause-in-TakeSome.result c.in-TakeSome.is (λ capacity events cause r number t m is. c.items_cause-in-TakeSome.ensures capacity events cause r number m.0 m.1 is)
-
-pub returns-in-TakeEmpty : goal.returns-in-TakeEmpty
-returns-in-TakeEmpty g c =
-    heard g.S.Offered.Fifo.items g.S.Taken.Fifo.items c.args.self.now c.args.line c.empty_cause.result c.in-TakeEmpty.is (λ capacity events cause r number t m is. c.empty_cause.ensures capacity events cause r m.0 m.1 is)
-
-pub returns-in-TakeShort : goal.returns-in-TakeShort
-returns-in-TakeShort g c =
-    heard g.S.Offered.Fifo.items g.S.Taken.Fifo.items c.args.self.now c.args.line c.take_short_cause.result c.in-TakeShort.is
-    (λ capacity events cause r number t m is. c.take_short_cause.ensures capacity events cause r m.0 m.1 (omega (arith, m.2)) is)
-
-pub returns-in-TakeNothing : goal.returns-in-TakeNothing
-returns-in-TakeNothing g c =
-    heard g.S.Offered.Fifo.items g.S.Taken.Fifo.items c.args.self.now c.args.line c.not_taken_cause.result c.in-TakeNothing.is (λ capacity events cause r number t m is. c.not_taken_cause.ensures capacity events cause r is)
-
-pub returns-in-TakeClosed : goal.returns-in-TakeClosed
-returns-in-TakeClosed g c =
-    heard g.S.Offered.Fifo.items g.S.Taken.Fifo.items c.args.self.now c.args.line c.closed_cause.result c.in-TakeClosed.is (λ capacity events cause r number t m is. c.closed_cause.ensures capacity events cause r is)
+pub returns-in-TakeEnds : goal.returns-in-TakeEnds
+returns-in-TakeEnds g c =
+    heard g.S.Offered.Fifo.items g.S.Taken.Fifo.items c.args.self.now c.args.line c.take_cause.result c.in-TakeEnds.is (λ capacity events cause r number t m is. c.take_cause.ensures capacity events cause t r number m is)
 
 pub returns-in-PutBegins : goal.returns-in-PutBegins
 returns-in-PutBegins g c =

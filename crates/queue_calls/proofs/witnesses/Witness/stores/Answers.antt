@@ -24,4 +24,5 @@ loop-place-preserved g c =
       ended_at = search rules;
       told_at = search rules;
       put_at = search rules;
+      stored_at = search rules;
     }

@@ -17,4 +17,5 @@ invariant-loop-place g l = record {
   ended_at : l.self.ended_at ≡ l.fn.self.ended_at;
   told_at : l.self.told_at ≡ l.fn.self.told_at;
   put_at : l.self.put_at ≡ l.fn.self.put_at;
+  stored_at : l.self.stored_at ≡ l.fn.self.stored_at;
 }

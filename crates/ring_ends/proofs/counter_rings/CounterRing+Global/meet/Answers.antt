@@ -1,10 +1,14 @@
+use Rattle.std.proofs.Common.{arith, rules}
 use Rattle.ring_core.proofs.LawLemmas.{ring_is_linearizable}
 use Rattle.ring_ends.proofs.CounterStarts.{both_idle}
+use Rattle.ring_ends.proofs.Passed.{takes_are_prefix}
 use Rattle.ring_ends.proofs.counter_rings.CounterRing+Global.meet.Goals as goal
 
 pub meet_steppers-p-requires-clause-idle : goal.meet_steppers-p-requires-clause-idle
-meet_steppers-p-requires-clause-idle c =
-    both_idle c.putter.inside.stepper c.putter.inside.counted.count c.putter.inside.counted.cell c.putter.inside.closed c.taker.inside.stepper c.taker.inside.counted.count c.taker.inside.counted.cell c.taker.inside.told c.putter.invariant c.taker.invariant
+meet_steppers-p-requires-clause-idle c = grind (arith, (both_idle c.putter.inside.stepper c.putter.inside.counted.count c.putter.inside.counted.cell c.putter.inside.closed c.taker.inside.stepper c.taker.inside.counted.count c.taker.inside.counted.cell c.taker.inside.told c.putter.invariant c.taker.invariant), c.putter.inside.closed, c.putter.inside.counted.cell, c.putter.inside.counted.count, c.putter.inside.stepper, c.putter.invariant, c.taker.inside.counted.cell, c.taker.inside.counted.count, c.taker.inside.stepper, c.taker.inside.told, c.taker.invariant)
 
 pub returns-clause-linearizable : goal.returns-clause-linearizable
 returns-clause-linearizable c = ring_is_linearizable _ _
+
+pub returns-clause-prefix : goal.returns-clause-prefix
+returns-clause-prefix c = takes_are_prefix _ _ c.requires.ring c.meet_steppers-p.result.0.known (search rules)

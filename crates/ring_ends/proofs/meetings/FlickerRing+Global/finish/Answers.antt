@@ -1,10 +1,11 @@
-use Rattle.std.proofs.Common.{◌∙◌}
+use Rattle.std.proofs.Common.{rules, ◌∙◌}
 use Rattle.ring_ends.specs.Machines.{consuming, producing}
 use Rattle.ring_ends.specs.Meetings.{ClosesAre, TellsAre}
 use Rattle.ring_ends.proofs.Idle.{closes_are, machine_idle, tells_are}
 use Rattle.ring_ends.proofs.PutterCalls.{call_seen, put_laws, put_seen}
 use Rattle.ring_ends.proofs.TakerCalls.{take_laws, take_seen, taking_seen}
 use Rattle.ring_core.proofs.LawLemmas.{ring_is_linearizable}
+use Rattle.ring_ends.proofs.Passed.{takes_are_prefix, takes_are_all}
 use Rattle.ring_ends.proofs.meetings.FlickerRing+Global.finish.Goals as goal
 
 pub join_steppers-seat-requires-clause-idle : goal.join_steppers-seat-requires-clause-idle
@@ -29,3 +30,9 @@ returns-clause-closed g c =
 
 pub returns-clause-linearizable : goal.returns-clause-linearizable
 returns-clause-linearizable g c = ring_is_linearizable _ _
+
+pub returns-clause-prefix : goal.returns-clause-prefix
+returns-clause-prefix g c = takes_are_prefix _ _ c.requires.ring c.join_steppers-seat.result.me.0.known (search rules)
+
+pub returns-clause-all : goal.returns-clause-all
+returns-clause-all g c = takes_are_all _ _ c.requires.ring c.join_steppers-seat.result.me.0.known (search rules) _ (returns-clause-told g c)

@@ -2,8 +2,9 @@ use Rattle.ring_ends.specs.Machines.{consuming, producing}
 use Rattle.ring_ends.proofs.Idle.{machine_idle}
 use Rattle.ring_ends.proofs.PutterCalls.{call_seen, put_laws}
 use Rattle.ring_ends.proofs.TakerCalls.{take_laws, taking_seen}
-use Rattle.std.proofs.Common.{◌∙◌}
+use Rattle.std.proofs.Common.{rules, ◌∙◌}
 use Rattle.ring_core.proofs.LawLemmas.{ring_is_linearizable}
+use Rattle.ring_ends.proofs.Passed.{takes_are_prefix}
 use Rattle.ring_ends.proofs.meetings.FlickerRing+Global.meet.Goals as goal
 
 pub meet_steppers-p-requires-clause-idle : goal.meet_steppers-p-requires-clause-idle
@@ -14,3 +15,6 @@ meet_steppers-p-requires-clause-idle g c = (
 
 pub returns-clause-linearizable : goal.returns-clause-linearizable
 returns-clause-linearizable g c = ring_is_linearizable _ _
+
+pub returns-clause-prefix : goal.returns-clause-prefix
+returns-clause-prefix g c = takes_are_prefix _ _ c.requires.ring c.meet_steppers-p.result.0.known (search rules)

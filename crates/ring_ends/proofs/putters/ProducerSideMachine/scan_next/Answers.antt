@@ -1,8 +1,6 @@
+use Rattle.std.proofs.Common.{arith}
 use Rattle.ring_ends.proofs.PutterCalls.{put_due}
 use Rattle.ring_ends.proofs.putters.ProducerSideMachine.scan_next.Goals as goal
 
 pub returns-clause-due : goal.returns-clause-due
-returns-clause-due c =
-    let n = c.next in
-    let x = c.expects_one-expects.ensures in
-    put_due c.args.scan.now n.result n.ensures.due n.ensures.right n.ensures.goes_on n.ensures.bounded (λ calls made st last. x.stands calls made st (x.due.1 last))
+returns-clause-due c = grind (arith, put_due)

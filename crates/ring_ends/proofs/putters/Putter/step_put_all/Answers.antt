@@ -1,7 +1,5 @@
-use Rattle.std.proofs.Common.{◌≡◌, inl, inr, ⊎_elim, sym, subst, ◌∙◌}
-use Rattle.bits_core.specs.declared.shapes.Shape.{Shape}
-use Rattle.ring_core.specs.Puts.{IsBatch}
-use Rattle.ring_core.specs.ProducerState.{Put, call_of}
+use Rattle.std.proofs.Common.{arith, ◌∙◌}
+use Rattle.ring_core.specs.ProducerState.{Put}
 use Rattle.ring_ends.specs.Machines.{producing}
 use Rattle.ring_seats.specs.Steppers.{AreAnswered, IsAskedOnce}
 use Rattle.ring_ends.proofs.MachineCalls.{Step, same_step, step_few, step_invariant, step_lawful}
@@ -15,12 +13,7 @@ abbrev step : (g : Over) (c : After-step g) → Step producing (Put c.args.items
 step g c = put_step c.self.inside.oracle c.self.inside.stepper c.self.inside.machine c.self.inside.steps c.args.self.now c.self.view_is c.self.invariant (Put c.args.items.now) c.begin_put_all.new.machine c.begin_put_all.ensures.begins c.step.new.stepper c.step.new.machine c.step.ensures.stepped
 
 pub step-requires-clause-few : goal.step-requires-clause-few
-step-requires-clause-few g c =
-    let p = c.self.inside in
-    let is : call_of p.machine ≡ c.args.self.now.call = call_seen c.self.view_is in
-    let batch : IsBatch p.machine.shape c.args.items.now = subst (λ (z : Shape). IsBatch z c.args.items.now) (sym (c.self.invariant.0.at.shape_is ∙ put_shape c.self.view_is)) c.requires.batch in
-    few_marked p.machine.shape (call_of p.machine) (Put c.args.items.now) p.steps p.stepper.list c.self.invariant.1
-    (⊎_elim (λ none. inl (is ∙ none)) (λ same. inr (is ∙ same.0)) c.requires.call) (few_accesses p.machine.shape c.args.items.now batch)
+step-requires-clause-few g c = grind (arith, call_seen, few_accesses, few_marked, put_shape)
 
 pub invariant_of-self : goal.invariant_of-self
 invariant_of-self g c = step_invariant producing put_laws (step g (goal.at.invariant_of-self g c).After-step) c.step.new.steps c.step.ensures.none c.step.ensures.more

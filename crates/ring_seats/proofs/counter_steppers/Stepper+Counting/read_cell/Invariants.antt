@@ -2,7 +2,7 @@ use Rattle.std.specs.Prelude.{◌^◌}
 use Rattle.bits_core.specs.declared.events.Side.TheVariants.{C}
 use Rattle.bits_core.specs.Shape.{width_of}
 use Rattle.register_core.specs.Word.{word_read}
-use Rattle.ring_seats.specs.Counters.{AddedAll, IsBelow}
+use Rattle.ring_seats.proofs.Grown.{AddedAll, IsBelow}
 use Rattle.ring_seats.proofs.counter_steppers.Stepper+Counting.read_cell.Given as goal
 
 abbrev pub ghosts-load : goal.ghosts-load

@@ -2,7 +2,7 @@ use Rattle.std.specs.Prelude.{◌==◌, [], ◌∷◌}
 use Rattle.bits_core.specs.declared.events.Side.TheVariants.{C}
 use Rattle.bits_core.specs.declared.events.Bit.TheVariants.{X}
 use Rattle.bits_core.specs.Made.{Read}
-use Rattle.ring_seats.specs.Counters.{AddedAll, TellsNothing}
+use Rattle.ring_seats.proofs.Grown.{AddedAll, TellsNothing}
 use Rattle.ring_seats.proofs.counter_steppers.Stepper+Counting.read_close.Given as goal
 
 abbrev pub ghosts-load : goal.ghosts-load

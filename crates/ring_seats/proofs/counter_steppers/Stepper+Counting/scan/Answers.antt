@@ -5,7 +5,8 @@ use Rattle.bits_core.specs.Made.{events_of}
 use Rattle.register_core.specs.ScanState.{scan_phrase, row_read_by}
 use Rattle.ring_seats.specs.Programs.{Follows}
 use Rattle.ring_seats.specs.Ring.{RingEnd}
-use Rattle.ring_seats.specs.Counters.{KeptWords, AddedAll, IsBelow}
+use Rattle.ring_seats.specs.Counters.{KeptWords}
+use Rattle.ring_seats.proofs.Grown.{AddedAll, IsBelow}
 use Rattle.ring_seats.proofs.CounterMoves.{loads_count}
 use Rattle.ring_seats.proofs.counter_steppers.Stepper+Counting.scan.Goals as goal
 

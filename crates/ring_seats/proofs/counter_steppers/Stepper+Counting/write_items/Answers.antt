@@ -1,7 +1,6 @@
-use Rattle.std.proofs.Common.{◌≡◌, refl, ℕ, suc, ◌+◌, ◌%◌, ◌^◌, ◌<◌, arith, sym, subst, ap, ◌∙◌, take, slice_index}
+use Rattle.std.proofs.Common.{rules, ◌≡◌, refl, ℕ, suc, ◌+◌, ◌%◌, arith, subst, ap, ◌∙◌, take}
 use Rattle.std.proofs.lemmas.Nat.{mod_below}
-use Rattle.bits_core.specs.declared.shapes.Shape.{Shape}
-use Rattle.bits_core.specs.Shape.{capacity_of, width_of}
+use Rattle.bits_core.specs.Shape.{capacity_of}
 use Rattle.ring_core.specs.Puts.{words_phrase}
 use Rattle.ring_seats.specs.Counters.{GrowsBy}
 use Rattle.ring_seats.proofs.CounterPuts.{fit_at}
@@ -9,19 +8,10 @@ use Rattle.ring_seats.proofs.CounterSteps.{same_shape, next_store, stored_one, n
 use Rattle.ring_seats.proofs.counter_steppers.Stepper+Counting.write_items.Goals as goal
 
 pub write_cell-requires-clause-below : goal.write_cell-requires-clause-below
-write_cell-requires-clause-below c =
-    let a = c.args.self.now in
-    let i = c.stores.invariant in
-    let there : a.ring.shape ≡ c.stores.self.ring.shape = sym (same_shape a c.stores.self i.0.same) in (
-      subst (λ (s : Shape). c.stores.place < capacity_of s) there
-          (subst (λ (n : ℕ). n < capacity_of a.ring.shape) (sym i.2) (mod_below (c.args.cell + c.stores.index) (capacity_of a.ring.shape) a.ring.shape.has_cells)),
-      subst (λ (s : Shape). slice_index c.args.items.now c.stores.index < 2 ^ width_of s) there (fit_at a.ring.shape c.args.items.now c.stores.index c.requires.fit c.stores-test.true),
-    )
+write_cell-requires-clause-below c = grind (arith, fit_at, mod_below, same_shape)
 
 pub write_cell-requires-clause-program : goal.write_cell-requires-clause-program
-write_cell-requires-clause-program c =
-    let i = c.stores.invariant in
-    next_store c.args.self.now c.args.cell c.args.items.now c.requires.stands.1 c.stores.self c.stores.index c.stores.place i.0 c.stores-test.true i.2 c.requires.program
+write_cell-requires-clause-program c = search (rules, next_store)
 
 pub stores-preserved : goal.stores-preserved
 stores-preserved c =

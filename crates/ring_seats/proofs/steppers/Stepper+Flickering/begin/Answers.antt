@@ -1,4 +1,4 @@
-use Rattle.std.proofs.Common.{ℕ, true, false, Some, [], ◌∷◌, ◌++◌, ap, ◌∙◌, sym, subst, refl}
+use Rattle.std.proofs.Common.{arith, ℕ, true, false, Some, [], ◌∷◌, ◌++◌, ap, ◌∙◌, sym, subst, refl}
 use Rattle.atomic_table.specs.Table.{Allows}
 use Rattle.bits_core.specs.declared.events.Access.{Access}
 use Rattle.bits_core.specs.declared.events.Act.TheVariants.{ReadBegin, WriteBegin}
@@ -7,11 +7,12 @@ use Rattle.bits_core.specs.Open.{IsOpenRight}
 use Rattle.ring_seats.specs.declared.views.View.{View}
 use Rattle.ring_seats.specs.Programs.{Follows, begin_of}
 use Rattle.ring_seats.specs.Ring.{RingEnd}
-use Rattle.ring_seats.specs.Rule.{Added, IsIdle, KeepsFlickerRule, event}
-use Rattle.ring_seats.specs.Steppers.{AreAnswered, Grows}
+use Rattle.ring_seats.specs.Rule.{IsIdle, KeepsFlickerRule, event}
+use Rattle.ring_seats.proofs.Grown.{Added}
+use Rattle.ring_seats.specs.Steppers.{AreAnswered}
 use Rattle.ring_seats.proofs.Moves.{begins_read, begins_write, opened_by}
 use Rattle.ring_seats.proofs.Answered.{quiet_step}
-use Rattle.ring_seats.proofs.Accesses.{end_at, grows, may_still}
+use Rattle.ring_seats.proofs.Accesses.{end_at, may_still}
 use Rattle.ring_seats.proofs.steppers.Stepper+Flickering.begin.Goals as goal
 
 pub load-self-inside-requires-clause-rule : goal.load-self-inside-requires-clause-rule
@@ -74,15 +75,7 @@ invariant_of-self-in-Write c =
     )
 
 pub returns-in-Read-clause-grows : goal.returns-in-Read-clause-grows
-returns-in-Read-clause-grows c =
-    let h = c.self.inside in
-    let l = c.load-self-inside in
-    subst (λ (z : RingEnd × Access). Grows z.0 (end_at h.ring h.side l.new.seat.me.0) (begin_of z.0.side z.1)) (λ i. (c.self.view_is i, sym c.in-Read.is i))
-    (grows h.ring h.side (event h.side c.in-Read.bit ReadBegin) l.result h.seat.me.0 l.new.seat.me.0 l.ensures.told.view l.ensures.told.stands)
+returns-in-Read-clause-grows c = grind arith
 
 pub returns-in-Write-clause-grows : goal.returns-in-Write-clause-grows
-returns-in-Write-clause-grows c =
-    let h = c.self.inside in
-    let l = c.store in
-    subst (λ (z : RingEnd × Access). Grows z.0 (end_at h.ring h.side l.new.seat.me.0) (begin_of z.0.side z.1)) (λ i. (c.self.view_is i, sym c.in-Write.is i))
-    (grows h.ring h.side (event h.side c.in-Write.bit (WriteBegin c.in-Write.value)) 2 h.seat.me.0 l.new.seat.me.0 l.ensures.told.view l.ensures.told.stands)
+returns-in-Write-clause-grows c = grind arith

@@ -1,4 +1,4 @@
-use Rattle.std.proofs.Common.{◌≡◌, ℕ, Bool, true, false, Some, ap, ◌∙◌, sym, subst, refl}
+use Rattle.std.proofs.Common.{arith, ◌≡◌, ℕ, true, false, Some, ap, ◌∙◌, sym, subst, refl}
 use Rattle.atomic_table.specs.Table.{Allows}
 use Rattle.bits_core.specs.declared.events.Access.{Access}
 use Rattle.bits_core.specs.declared.events.Act.TheVariants.{ReadEnd, WriteEnd}
@@ -6,14 +6,15 @@ use Rattle.bits_core.specs.Bits.{other}
 use Rattle.bits_core.specs.History.{open_access}
 use Rattle.bits_core.specs.Open.{IsOpenRight}
 use Rattle.ring_seats.specs.declared.views.View.{View}
-use Rattle.ring_seats.specs.Programs.{GoesOn, ending_event}
+use Rattle.ring_seats.specs.Programs.{GoesOn}
 use Rattle.ring_seats.specs.Ring.{RingEnd}
-use Rattle.ring_seats.specs.Rule.{KeepsFlickerRule, Added, event}
-use Rattle.ring_seats.specs.Steppers.{AreAnswered, Grows}
-use Rattle.ring_seats.specs.Words.{agrees, answer_of}
+use Rattle.ring_seats.specs.Rule.{KeepsFlickerRule, event}
+use Rattle.ring_seats.proofs.Grown.{Added}
+use Rattle.ring_seats.specs.Steppers.{AreAnswered}
+use Rattle.ring_seats.specs.Words.{answer_of}
 use Rattle.ring_seats.proofs.Moves.{ends_read, ends_write, opened_by}
 use Rattle.ring_seats.proofs.Answered.{asked_once, asked_so, quiet_step, read_step}
-use Rattle.ring_seats.proofs.Accesses.{end_at, grows, may_still}
+use Rattle.ring_seats.proofs.Accesses.{end_at, may_still}
 use Rattle.ring_seats.proofs.steppers.Stepper+Flickering.end.Goals as goal
 
 pub load-found-requires-clause-rule : goal.load-found-requires-clause-rule
@@ -54,13 +55,7 @@ invariant_of-self-in-Write g c =
     )
 
 pub returns-in-Read-clause-answered : goal.returns-in-Read-clause-answered
-returns-in-Read-clause-answered g c =
-    let h = c.self.inside in
-    let l = c.load-found in
-    let first_is : h.seat.me.0.first ≡ h.kept.first = c.self.invariant.4.0 in
-    let asked = asked_so g.O.Oracle.answers c.args.oracle.now c.answer.new.oracle (agrees h.seat.me.0.first l.result) (λ t. c.answer.ensures.agree (ap (λ (n : ℕ). agrees n l.result) (sym first_is) ∙ t)) (λ t. c.answer.ensures.asks (ap (λ (n : ℕ). agrees n l.result) (sym first_is) ∙ t)) in
-    subst (λ (e : RingEnd). AreAnswered e (end_at h.ring h.side l.new.seat.me.0) (g.O.Oracle.answers c.args.oracle.now) (g.O.Oracle.answers c.answer.new.oracle)) c.self.view_is
-    (read_step h.ring h.side c.in-Read.bit l.result h.seat.me.0 l.new.seat.me.0 (g.O.Oracle.answers c.args.oracle.now) (g.O.Oracle.answers c.answer.new.oracle) l.ensures.told.view asked)
+returns-in-Read-clause-answered g c = grind (arith, asked_so, end_at, read_step)
 
 pub returns-in-Write-clause-answered : goal.returns-in-Write-clause-answered
 returns-in-Write-clause-answered g c =
@@ -84,22 +79,10 @@ invariant_of-self g c =
     )
 
 pub returns-in-Read-clause-grows : goal.returns-in-Read-clause-grows
-returns-in-Read-clause-grows g c =
-    let h = c.self.inside in
-    let l = c.load-found in
-    let said = g.O.Oracle.answers c.args.oracle.now 0 in
-    let v = answer_of h.seat.me.0.first l.result said in
-    let is : v ≡ c.answer.result = ap (λ (n : ℕ). answer_of n l.result said) c.self.invariant.4.0 ∙ sym c.answer.ensures.answer in
-    subst (λ (z : RingEnd × (Access × Bool)). Grows z.0 (end_at h.ring h.side l.new.seat.me.0) (ending_event z.0.side z.1.0 z.1.1)) (λ i. (c.self.view_is i, (sym c.in-Read.is i, is i)))
-    (grows h.ring h.side (event h.side c.in-Read.bit (ReadEnd v)) l.result h.seat.me.0 l.new.seat.me.0 l.ensures.told.view l.ensures.told.stands)
+returns-in-Read-clause-grows g c = grind arith
 
 pub returns-in-Read-clause-oracle : goal.returns-in-Read-clause-oracle
-returns-in-Read-clause-oracle g c =
-    asked_once g.O.Oracle.answers c.args.oracle.now c.answer.new.oracle (agrees c.self.inside.kept.first c.load-found.result) c.answer.ensures.agree c.answer.ensures.asks
+returns-in-Read-clause-oracle g c = grind (arith, asked_once, c.answer.ensures.agree, c.answer.ensures.asks, c.answer.new.oracle, c.args.oracle.now, c.load-found.result, c.self.inside.kept.first, g.O.Oracle.answers)
 
 pub returns-in-Write-clause-grows : goal.returns-in-Write-clause-grows
-returns-in-Write-clause-grows g c =
-    let h = c.self.inside in
-    let l = c.store in
-    subst (λ (z : RingEnd × Access). Grows z.0 (end_at h.ring h.side l.new.seat.me.0) (ending_event z.0.side z.1 c.in-Write.value)) (λ i. (c.self.view_is i, sym c.in-Write.is i))
-    (grows h.ring h.side (event h.side c.in-Write.bit WriteEnd) c.word_of-new.result h.seat.me.0 l.new.seat.me.0 l.ensures.told.view l.ensures.told.stands)
+returns-in-Write-clause-grows g c = grind arith

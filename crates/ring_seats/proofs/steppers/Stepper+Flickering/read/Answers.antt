@@ -1,4 +1,4 @@
-use Rattle.std.proofs.Common.{◌≡◌, ℕ, true, false, List, refl, ap, sym, subst, ◌∙◌}
+use Rattle.std.proofs.Common.{arith, ◌≡◌, ℕ, true, false, List, refl, ap, sym, subst, ◌∙◌}
 use Rattle.atomic_table.specs.Table.{Allows}
 use Rattle.bits_core.specs.declared.events.Bit.{Bit}
 use Rattle.bits_core.specs.declared.events.Act.TheVariants.{ReadBegin, ReadEnd}
@@ -10,7 +10,8 @@ use Rattle.ring_seats.specs.Steppers.{CanMake, HasMade, AreAnswered}
 use Rattle.ring_seats.specs.Programs.{GoesOn}
 use Rattle.ring_seats.specs.Ring.{Ring, RingEnd}
 use Rattle.ring_seats.specs.declared.views.View.{View}
-use Rattle.ring_seats.specs.Rule.{Added, KeepsFlickerRule, event}
+use Rattle.ring_seats.specs.Rule.{KeepsFlickerRule, event}
+use Rattle.ring_seats.proofs.Grown.{Added}
 use Rattle.ring_seats.specs.Words.{answer_of, word_place, agrees}
 use Rattle.ring_seats.proofs.Accesses.{end_at, list_more, made_read, may_still, none_open}
 use Rattle.ring_seats.proofs.Moves.{begins_read, ends_read, opened_by}
@@ -28,15 +29,7 @@ record MayRead (inside : RingEnd) (b : Bit) (ring : Ring) (word : ℕ) : Type 0 
 may_read :
     (inside now : RingEnd) (b : Bit) (ring : Ring) (word : ℕ) → inside ≡ now → ring ≡ now.ring → word ≡ word_place ring.shape b →
     (belongs now.ring.shape b ≡ true) × (now.side ≡ reader b) → CanMake now (Read b) → MayRead inside b ring word
-may_read inside now b ring word is ring_is word_is bit can =
-    let back : inside.ring ≡ ring = ap (λ (e : RingEnd). e.ring) is ∙ sym ring_is in
-    record {
-      ring_is = back;
-      word_is = ap (λ (r : Ring). word_place r.shape b) back ∙ sym word_is;
-      bit = subst (λ (e : RingEnd). belongs e.ring.shape b ≡ true) (sym is) bit.0;
-      side = subst (λ (e : RingEnd). e.side ≡ reader b) (sym is) bit.1;
-      can = subst (λ (e : RingEnd). CanMake e (Read b)) (sym is) can;
-    }
+may_read inside now b ring word is ring_is word_is bit can = grind arith
 
 pub load-first-requires-clause-rule : goal.load-first-requires-clause-rule
 load-first-requires-clause-rule g c =

@@ -9,7 +9,8 @@ use Rattle.ring_seats.specs.Steppers.{CanMake, HasMade, AreAnswered}
 use Rattle.ring_seats.specs.Programs.{GoesOn}
 use Rattle.ring_seats.specs.Ring.{Ring, RingEnd}
 use Rattle.ring_seats.specs.declared.views.View.{View}
-use Rattle.ring_seats.specs.Rule.{Added, KeepsFlickerRule, event}
+use Rattle.ring_seats.specs.Rule.{KeepsFlickerRule, event}
+use Rattle.ring_seats.proofs.Grown.{Added}
 use Rattle.ring_seats.specs.Words.{word_place}
 use Rattle.ring_seats.proofs.Accesses.{end_at, list_more, made_write, may_still, none_open}
 use Rattle.ring_seats.proofs.Moves.{begins_write, ends_write, opened_by}

@@ -1,0 +1,90 @@
+-- Replies: what is passed is within what was offered or asked for, and what each of them is.
+use Rattle.std.proofs.Common.{◌≡◌, ◌⊎◌, inl, inr, ℕ, zero, suc, ◌-◌, ◌<◌, ◌≤◌, Bool, true, false, if◌then◌else◌, Some, None, List, ◌∷◌, length, refl, sym, ap, subst, arith}
+use Rattle.queue_calls.specs.Queue.{Capacity, LacksRoom}
+use Rattle.queue_calls.specs.Calls.{Event, PutEnd, TakeEnd, Reply, Passed, Lacked, Short, Nothing, Shut, passed, is_shut, CanReply, short_of, lacked_by}
+use Rattle.queue_calls.specs.Counting.{FoundFewer}
+use Rattle.queue_calls.specs.State.{MayLack}
+use Rattle.queue_calls.specs.Reasons.{before_stored, has_told, line_behind, told_closed_line}
+
+pub shut_is : {A : Type 0} (reply : Reply A) → is_shut reply ≡ true → reply ≡ Shut
+shut_is Shut e = refl
+shut_is _ e = absurd cc
+
+pub shut_within : {A : Type 0} (reply : Reply A) (done most : ℕ) → is_shut reply ≡ true → CanReply reply done most
+shut_within Shut done most e = tt
+shut_within _ done most e = absurd cc
+
+pub few : {A : Type 0} (size : A → ℕ) (none : A) (reply : Reply A) (most : ℕ) → size none ≡ 0 → CanReply reply (size (passed none reply)) most → size (passed none reply) ≤ most
+few size none (Passed what why) most e within = within.1
+few size none _ most e within = omega (arith, e)
+
+-- the reply to a put that stored none, and found no lack of room, is Nothing or Shut
+pub none_is :
+    (reply : Reply ℕ) (most left : ℕ) → left ≡ most - passed 0 reply → CanReply reply (passed 0 reply) most → lacked_by reply (passed 0 reply) left ≡ 0 → passed 0 reply ≡ 0 →
+    (reply ≡ Nothing) ⊎ (reply ≡ Shut)
+none_is (Passed count why) most left e within lacked none = absurd (omega (arith, within.0, none))
+none_is Lacked most left e within lacked none = absurd (omega (arith, lacked))
+none_is Short most left e within lacked none = absurd (omega (arith, lacked, e, within))
+none_is Nothing most left e within lacked none = inl refl
+none_is Shut most left e within lacked none = inr refl
+
+-- ---- what is lacked
+
+pub lacks_room : (capacity : Capacity) (before count : ℕ) → 0 < count → MayLack capacity before count → LacksRoom capacity before count
+lacks_room capacity before count l f = elim f [ inl e ↦ absurd (omega (arith, e, l)) | inr g ↦ g ]
+
+-- a call that passed some lacked one more if it says why and left some, and none otherwise
+short_cases : (why : Bool) (done left : ℕ) → (short_of why done left ≡ 0) ⊎ ((why ≡ true) × (0 < left) × (short_of why done left ≡ suc done))
+short_cases why done zero = inl refl
+short_cases false done (suc left) = inl refl
+short_cases true done (suc left) = inr (refl, omega arith, refl)
+
+short_more : (why : Bool) (done left : ℕ) → why ≡ true → 0 < left → short_of why done left ≡ suc done
+short_more why done zero says l = absurd (omega (arith, l))
+short_more false done (suc left) says l = absurd cc
+short_more true done (suc left) says l = refl
+
+pub lacks_more : (capacity : Capacity) (before count most : ℕ) (why : Bool) → MayLack capacity before (short_of why count (most - count)) → why ≡ true → count < most → LacksRoom capacity before (suc count)
+lacks_more capacity before count most why lacks says l = lacks_room capacity before (suc count) (omega arith) (subst (λ z. MayLack capacity before z) (short_more why count (most - count) says (omega (arith, l))) lacks)
+
+pub may_lack_more : (capacity : Capacity) (before count most : ℕ) (why : Bool) → (why ≡ true → count < most → LacksRoom capacity before (suc count)) → MayLack capacity before (short_of why count (most - count))
+may_lack_more capacity before count most why f = elim (short_cases why count (most - count)) [
+  | inl none ↦ inl none
+  | inr (says, l, e) ↦ inr (subst (λ z. LacksRoom capacity before z) (sym e) (f says (omega (arith, l))))
+]
+
+pub fewer_told :
+    (before : ℕ) (ended : Bool) (items : List ℕ) (most : ℕ) (why : Bool) → FoundFewer before ended (length items) (short_of why (length items) (most - length items)) → why ≡ true →
+    length items < most → before ≤ length items
+fewer_told before ended items most why found says l =
+    let more : short_of why (length items) (most - length items) ≡ suc (length items) = short_more why (length items) (most - length items) says (omega (arith, l)) in
+    let (less, _) = found (omega (arith, more)) in omega (arith, less, more)
+
+pub found_fewer :
+    (before : ℕ) (ended : Bool) (items : List ℕ) (most : ℕ) (why : Bool) → 0 < length items → (why ≡ true → length items < most → before ≤ length items) →
+    FoundFewer before ended (length items) (short_of why (length items) (most - length items))
+found_fewer before ended items most why some f l = elim (short_cases why (length items) (most - length items)) [
+  | inl none ↦ absurd (omega (arith, l, none))
+  | inr (says, m, e) ↦ (let less = f says (omega (arith, m)) in (omega (arith, less, e), (λ none. absurd (omega (arith, some, none)))))
+]
+
+-- ---- what is reported after them
+
+pub none_passed : (reply : Reply ℕ) → (reply ≡ Nothing) ⊎ (reply ≡ Shut) → passed 0 reply ≡ 0
+none_passed reply is = elim is [ inl e ↦ ap (passed 0) e | inr e ↦ ap (passed 0) e ]
+
+pub told_on : (reply : Reply (List ℕ)) (past : List Event) → is_shut reply ≡ false → has_told (TakeEnd reply ∷ past) ≡ has_told past
+told_on Shut past e = absurd cc
+told_on _ past e = refl
+
+pub told_line_on :
+    (reply : Reply (List ℕ)) (past : List Event) → is_shut reply ≡ false →
+    (if has_told past then Some (told_closed_line past) else None) ≡ (if has_told (TakeEnd reply ∷ past) then Some (told_closed_line (TakeEnd reply ∷ past)) else None)
+told_line_on Shut past e = absurd cc
+told_line_on _ past e = refl
+
+pub stored_line_on :
+    (reply : Reply ℕ) (past : List Event) (most line : ℕ) → CanReply reply (passed 0 reply) most → (0 < passed 0 reply → line ≡ line_behind past) →
+    (passed 0 reply ≡ 0 → line ≡ line_behind (before_stored past)) → line ≡ line_behind (before_stored (PutEnd reply ∷ past))
+stored_line_on (Passed count why) past most line within some none = some within.0
+stored_line_on _ past most line within some none = none refl
