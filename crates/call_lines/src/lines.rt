@@ -154,11 +154,10 @@ pub fn read_line<R: Store<u64>>(bytes: &[u8], numbers: &mut R) -> Result<Option<
 pub(crate) fn word_at(bytes: &[u8]) -> Option<(Word, &[u8])>
     ensures { option_map (λ x. (x.0, x.1.now)) result ≡ line_word_at bytes.now }
 {
-    if let Some(rest) = after(bytes, "P ") {
-        return put_word_at(rest);
-    }
-    if let Some(rest) = after(bytes, "C ") {
-        return take_word_at(rest);
+    match bytes {
+        [b'P', b' ', ..] => return put_word_at(&bytes[2..]),
+        [b'C', b' ', ..] => return take_word_at(&bytes[2..]),
+        _ => {}
     }
     if let Some(rest) = after(bytes, "queue") {
         return Some((Word::Queue, rest));

@@ -269,6 +269,7 @@ impl<Q: Inside> CallAuditor<Q> {
     }
 
     // Ends the put without its last `rest` items, if that is possible.
+    #[inline(always)]
     fn ends_put(&mut self, rest: usize) -> bool
         ensures room { Q.room self.new.inside ≡ Q.room self.old.inside }
         ensures ends { IsTrue result ↔

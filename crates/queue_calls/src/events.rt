@@ -31,9 +31,11 @@ pub enum Reply<N> {
 }
 
 impl Reply<usize> {
-    // How many items were stored.
+    /// How many items the put stored.
+    ///
+    /// For example, `Reply::Passed(2).count()` is 2, and `Reply::Lacked.count()` is 0. In use: `queue_points`.
     #[inline(always)]
-    pub(crate) fn count(self) -> usize
+    pub fn count(self) -> usize
         ensures { result ≡ passed 0 (reply_by (λ count. count) self) }
     {
         match self {
@@ -44,9 +46,11 @@ impl Reply<usize> {
 }
 
 impl<'a> Reply<&'a [u64]> {
-    // The items that were taken.
+    /// The items that the take took.
+    ///
+    /// For example, `Reply::Passed(&[5, 6]).items()` is `[5, 6]`, and `Reply::Lacked.items()` is empty. In use: `queue_points`.
     #[inline(always)]
-    pub(crate) fn items(self) -> &'a [u64]
+    pub fn items(self) -> &'a [u64]
         ensures { result.now ≡ passed [] (reply_by (λ items. items.now) self.entry) }
     {
         match self {

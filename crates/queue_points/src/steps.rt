@@ -78,16 +78,6 @@ fn may_end<N>(reply: &Reply<N>, lacked: usize, done: usize, left: usize) -> bool
     }
 }
 
-// How many items a put stored by its reply.
-fn stored_by(reply: Reply<usize>) -> usize
-    ensures { result ≡ passed 0 (reply_by (λ count. count) reply) }
-{
-    match reply {
-        Reply::Passed(count) | Reply::PassedSome(count) => count,
-        Reply::Lacked | Reply::Short | Reply::Nothing | Reply::Shut => 0,
-    }
-}
-
 // Whether the producer's put ends with this reply.
 fn put_ends(put: PutStand<'_>, reply: Reply<usize>) -> bool
     ensures { IsTrue result ↔ ProducerStep (producer_of put.entry)
@@ -96,7 +86,7 @@ fn put_ends(put: PutStand<'_>, reply: Reply<usize>) -> bool
     match put {
         PutStand::Putting(lacked, stored, items) => {
             let left = items.len().saturating_sub(stored);
-            stored == stored_by(reply) && may_end(&reply, lacked, stored, left)
+            stored == reply.count() && may_end(&reply, lacked, stored, left)
         }
         PutStand::FoundShut => matches!(reply, Reply::Shut),
         PutStand::Idle | PutStand::Closing(_) => false,
@@ -155,16 +145,6 @@ pub fn stretch(row: &[u64], from: usize, to: usize) -> &[u64]
     &row[from..to]
 }
 
-// The items that a take took by its reply.
-fn taken_by<'a>(reply: Reply<&'a [u64]>) -> &'a [u64]
-    ensures { result.now ≡ passed [] (reply_by (λ items. items.now) reply.entry) }
-{
-    match reply {
-        Reply::Passed(items) | Reply::PassedSome(items) => items,
-        Reply::Lacked | Reply::Short | Reply::Nothing | Reply::Shut => &[],
-    }
-}
-
 // Whether the consumer's take ends with this reply, with `head` items of the row taken out.
 fn take_ends(row: &[u64], head: usize, take: TakeStand, reply: Reply<&[u64]>) -> bool
     requires began { began_at take ≤ head }
@@ -174,7 +154,7 @@ fn take_ends(row: &[u64], head: usize, take: TakeStand, reply: Reply<&[u64]>) ->
 {
     match take {
         TakeStand::Taking(lacked, from, left) => {
-            let items = taken_by(reply);
+            let items = reply.items();
             stretch(row, from, head) == items && may_end(&reply, lacked, items.len(), left)
         }
         TakeStand::FoundClosed => matches!(reply, Reply::Shut),

@@ -5,7 +5,7 @@ ghost use Rattle.queue_calls.specs.State.{IsProper};
 ghost use Rattle.queue_calls.specs.Told.{meant};
 
 use crate::tests::cases::{CASES, Case};
-use queue_calls::{CallAuditor, Capacity, Event, Fault, Fifo, Slots};
+use queue_calls::{CallAuditor, Capacity, Event, Fault, Fifo, Reply, Slots};
 use std::alloc::AllocGlobal;
 use std::process::Abort;
 use std::test::Fail;
@@ -65,4 +65,22 @@ fn each_history_is_told(rt: HostRuntime) -> Result<(), Fail> {
         expect(&rt, is_told_in_slots(case), case.name);
     }
     Ok(())
+}
+
+#[test]
+fn a_reply_says_what_passed(rt: HostRuntime) {
+    let two: &[u64] = &[5, 6];
+    assert!(rt; Reply::Passed(2).count() == 2 && Reply::PassedSome(3).count() == 3);
+    assert!(rt; Reply::Passed(two).items() == two && Reply::PassedSome(two).items() == two);
+    for none in [Reply::Lacked, Reply::Short, Reply::Nothing, Reply::Shut] {
+        assert!(rt; none.count() == 0);
+    }
+    for none in [
+        Reply::<&[u64]>::Lacked,
+        Reply::Short,
+        Reply::Nothing,
+        Reply::Shut,
+    ] {
+        assert!(rt; none.items().is_empty());
+    }
 }
