@@ -17,3 +17,4 @@ pub mod PutCalls
 pub mod PutParts
 pub mod TakeCalls
 pub mod TakeParts
+pub mod Trees

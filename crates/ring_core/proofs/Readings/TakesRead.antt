@@ -109,7 +109,7 @@ pub from_take :
 from_take shape k x takes end = append_assoc (take_phrase shape k x) (take_phrases shape (count_after shape k x) takes) (end_phrase end)
 
 -- the bits of the count after a take are those of a count
-after_is_count : (shape : Shape) (k : Count) (x : Take) → IsCount shape k → IsCount shape (count_after shape k x)
+pub after_is_count : (shape : Shape) (k : Count) (x : Take) → IsCount shape k → IsCount shape (count_after shape k x)
 after_is_count shape k (Item seen items) is = counted_is_count shape k items
 after_is_count shape k (ItemAfterClose seen again items) is = counted_is_count shape k items
 after_is_count shape k (Empty seen) is = is
