@@ -56,9 +56,7 @@ has_word :
     (shape : Shape) (calls : Takes) (x : Take) (n start stop index item word : ℕ) → IsTakeAt shape calls x n start stop → slice_get (taken.taken_of x) index ≡ Some item →
     word ≡ start + events_in (accesses_before_word x) + 2 * (index * width_of shape) → HasWord shape calls n index item word stop
 has_word shape calls (Item seen items) n start stop index item word at e f = grind (arith, item_has_span shape calls seen items n start stop)
-has_word shape calls (ItemAfterClose seen again items) n start stop index item word at e f =
-    let z = after_has_second shape calls seen again items n start stop at in
-    grind (arith, length-append)
+has_word shape calls (ItemAfterClose seen again items) n start stop index item word at e f = grind (arith, after_has_second shape calls seen again items n start stop at, length-append)
 has_word shape calls (Empty seen) n start stop index item word at e f = absurd (cc)
 
 module _ (shape : Shape) (h : List Event) (puts : Puts) (takes : Takes) (run : IsRun shape h puts takes)
@@ -78,18 +76,13 @@ module _ (shape : Shape) (h : List Event) (puts : Puts) (takes : Takes) (run : I
   takes_ended_are t = sym (ap length (takes_items shape first_count takes.takes takes.end t) ∙ length-ended_items (take_spans shape takes) t)
 
   put_number : (w : ℕ) → (first : List Put) × IsPrefix first puts.puts × (tally (sizes (put_spans shape puts)) w ≡ stored_in 0 first)
-  put_number w =
-      let (before, after, e, f) = put_tally shape first_count puts.puts w in
-      (before, (after, sym e), omega (arith, f))
+  put_number w = grind (arith, put_tally shape first_count puts.puts w)
 
   take_number : (w : ℕ) → (first : List Take) × IsPrefix first takes.takes × (tally (sizes (take_spans shape takes)) w ≡ taken_in 0 first)
-  take_number w =
-      let (before, after, e, f) = take_tally shape first_count takes.takes takes.end w in
-      (before, (after, sym e), omega (arith, f))
+  take_number w = grind (arith, take_tally shape first_count takes.takes takes.end w)
 
   pub within : IsWithin shape h puts takes
-  within t =
-      grind (arith, puts_begun_are, takes_begun_are)
+  within t = search (arith, puts_begun_are, takes_begun_are)
 
   -- ---- the ranges
 
@@ -158,8 +151,7 @@ module _ (shape : Shape) (h : List Event) (puts : Puts) (takes : Takes) (run : I
   put_word : (before after : List Made) (cell item : ℕ) → put_program shape puts ≡ before ++ (word_write (width_of shape) cell item ++ after) →
       WordSpan P shape 0 (put_spans shape puts) before (word_write (width_of shape) cell item ++ after) cell
   put_word before after cell item program =
-      word_there P shape first_count (put_looks puts.puts) (close_phrase puts.closes) (no_word P puts.closes) before after cell item
-      (sym (puts_as_looks shape first_count puts.puts puts.closes) ∙ program)
+      grind (arith, word_there P shape first_count (put_looks puts.puts) (close_phrase puts.closes) (no_word P puts.closes) before after cell item (sym (puts_as_looks shape first_count puts.puts puts.closes) ∙ program), put_looks puts.puts, no_word P puts.closes, puts_as_looks shape first_count puts.puts puts.closes)
 
   take_word : (before after : List Made) (cell item : ℕ) → take_program shape takes ≡ before ++ (word_read (width_of shape) cell item ++ after) →
       WordSpan C shape 0 (take_spans shape takes) before (word_read (width_of shape) cell item ++ after) cell

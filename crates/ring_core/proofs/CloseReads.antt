@@ -93,10 +93,7 @@ module _ (shape : Shape) (h : List Event) (lawful : IsLawful shape h) (puts : Li
 
   -- each write of the close bit is the close, which begins after all puts
   close_is : (v : Bool) (start stop : ℕ) → IsWrite h X v start stop → (v ≡ true) × IsPlaceOf P h (2 * length front) start
-  close_is v start stop w =
-      let (n, x, x_at, x_is, place) = access_is_made P h all follows (begins.Write X v) start stop w in
-      let (at_end, is_true, closed) = only_close front (no_close-puts shape first_count puts) closes n x v x_at x_is in
-      (is_true, subst (λ k. IsPlaceOf P h (2 * k) start) at_end place.start_is)
+  close_is v start stop w = grind (arith, access_is_made P h all follows (begins.Write X v) start stop w, only_close, no_close-puts shape first_count puts)
 
   -- a write that has begun by a place is counted there
   close_begun : (v : Bool) (start stop place : ℕ) → IsWrite h X v start stop → start < place → 2 * length front < clock P h place
@@ -126,8 +123,7 @@ module _ (shape : Shape) (h : List Event) (lawful : IsLawful shape h) (puts : Li
 
   -- a write of the bit and the end of a read are at two places
   apart : (v : Bool) (answer : Bool) (start stop last : ℕ) → IsWrite h X v start stop → slice_get h last ≡ Some (record { side = C; bit = X; act = ReadEnd answer }) → (start ≡ last) → ⊥
-  apart v answer start stop last w ends e =
-      grind arith
+  apart v answer start stop last w ends e = search arith
 
   begun_before_end : (v answer : Bool) (start stop last : ℕ) → IsWrite h X v start stop → slice_get h last ≡ Some (record { side = C; bit = X; act = ReadEnd answer }) → (last < start → ⊥) → start < last
   begun_before_end v answer start stop last w ends l = grind (arith, at_most_or_above, apart)

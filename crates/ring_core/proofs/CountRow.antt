@@ -54,8 +54,7 @@ clears_step old j rest b e bits same k h1 = grind (arith, clearing_keeps)
 -- those of a clearing do so, if the bits below are those remembered
 clearing_clears : (old : ℕ → Bool) (j : ℕ) → ClearsBelow old j
 clearing_clears old zero bits same k below = absurd (omega arith)
-clearing_clears old (suc j) bits same k below =
-    clears_step old j (clearing_clears old j) (old j) refl bits same k (at_or_below k j below)
+clearing_clears old (suc j) bits same k below = grind (arith, clears_step, at_or_below, clearing_clears old j)
 
 -- the bit of the value, by what it was
 value_set : (bits : ℕ → Bool) (v : ℕ) (b : Bool) → bits v ≡ b → bits_after bits (cond b [] (set_to_1 v ∷ []) ++ clearing bits v) v ≡ true
@@ -207,19 +206,13 @@ pub value_held :
     (shape : Shape) (c : Count) (items values : List ℕ) (bits : ℕ → Bool) →
     bits_after (bits_after c.bits (count_bits shape c items)) (row_writes (unary_writes (bits_after c.bits (count_bits shape c items)) values)) ≡ bits →
     bits_after c.bits (row_writes (unary_writes c.bits (number_past c.number items % modulus_of shape ∷ values))) ≡ bits
-value_held shape c items values bits e =
-    let next : ℕ → Bool = bits_after c.bits (count_bits shape c items) in
-    bits_after-append (count_bits shape c items) (row_writes (unary_writes next values)) c.bits ∙ e
+value_held shape c items values bits e = grind (arith, bits_after-append)
 
 -- the writes of values that leave a count, and of one more that counts these items too
 pub values_writes-push :
     (shape : Shape) (s : Side) (values items : List ℕ) (c : Count) → bits_after first_bits (writes_of values) ≡ c.bits →
     count_writes s (values ++ number_past c.number items % modulus_of shape ∷ []) ≡ count_writes s values ++ batch_phrase shape s c items
-values_writes-push shape s values items c held =
-    let v : ℕ = number_past c.number items % modulus_of shape in
-    let old : List RowWrite = writes_of values in
-    ap (writes_in (row_bit s)) (row_writes-push values v first_bits ∙ ap (λ b. old ++ unary_phrase b v) held) ∙
-    map-append (λ (w : RowWrite). Write (row_bit s w.bit) w.value) old (count_bits shape c items)
+values_writes-push shape s values items c held = grind (arith, row_writes-push, map-append)
 
 -- a count write does not begin with accesses of bits of no row
 pub batch_first :

@@ -235,8 +235,7 @@ tail_is : (t a b n i : ℕ) → t ≡ a + b → a ≤ n → (2 * n ≤ suc i →
 tail_is t a b n i e most all none = grind (arith, at_most_or_above)
 
 count_then : (s : Side) (shape : Shape) (c : Count) (items : List ℕ) (after : List Made) (i : ℕ) → CountThen s shape c items after i
-count_then s shape c items after i =
-    grind (arith, length-map, tail_is, count_some s (count_bits shape c items) i, made-append s (batch_phrase shape s c items) after i)
+count_then s shape c items after i = search (arith, length-map, tail_is, count_some s (count_bits shape c items) i, made-append s (batch_phrase shape s c items) after i)
 
 lt_so : (a b m : ℕ) → a < b → ◌≡◌ {A = ℕ} (if nat_lt a b then m else 0) m
 lt_so a b m l = grind (arith, nat_tests)
@@ -292,8 +291,7 @@ ended_step :
     (if nat_le (place + 2 * length (count_part s shape c o)) i then counts o else 0) + counts_ended xs (i - (place + 2 * length (count_part s shape c o))) ≤
     tally (size_of o ++ ms)
     (unary.ended (unary_writes c.bits (value_of shape c.number o ++ vs)) (bit_writes s (events_of s (count_part s shape c o ++ after)) (i - 1 - place)))
-ended_step most s shape c (Passes items) ms vs after xs place proper rest i =
-    grind (arith, at_most_or_above, count_then, ended_more, le_so, ended_zero, le_none)
+ended_step most s shape c (Passes items) ms vs after xs place proper rest i = search (arith, at_most_or_above, count_then, ended_more, le_so, ended_zero, le_none)
 ended_step most s shape c Stops ms vs after xs place proper rest i = grind (arith, no_one)
 ended_step most s shape c (Asks answer) ms vs after xs place proper rest i = grind (arith, no_one)
 

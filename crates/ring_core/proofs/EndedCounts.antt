@@ -58,8 +58,7 @@ begun_are shape c (Item seen items ∷ takes) t =
     grind (arith, length_if, begun_are shape (count_after shape c (Item seen items)) takes (t - (events_in (take_phrase shape c (Item seen items)))))
 begun_are shape c (ItemAfterClose seen again items ∷ takes) t =
     grind (arith, length_if, begun_are shape (count_after shape c (ItemAfterClose seen again items)) takes (t - (events_in (take_phrase shape c (ItemAfterClose seen again items)))))
-begun_are shape c (Empty seen ∷ takes) t =
-    grind (arith, none_or, begun_are shape (count_after shape c (Empty seen)) takes (t - (events_in (take_phrase shape c (Empty seen)))))
+begun_are shape c (Empty seen ∷ takes) t = search (arith, none_or, begun_are shape (count_after shape c (Empty seen)) takes (t - (events_in (take_phrase shape c (Empty seen)))))
 
 pub takes_begun_is : (shape : Shape) (calls : Takes) (t : ℕ) → takes_begun shape calls t ≡ taken_begun shape first_count calls.takes t
 takes_begun_is shape calls t = begun_are shape first_count calls.takes t

@@ -107,9 +107,7 @@ pub ring_is_linearizable : InEveryRun IsLinearizableRun
 ring_is_linearizable = λ shape h puts takes run. linearizable shape h puts takes run (law_of_spans shape h puts takes run)
 
 pub recorded_is_linearizable : RecordedIsLinearizable
-recorded_is_linearizable = λ shape offers wants h puts takes run offered some wanted.
-    counted_is_linearizable (exactly (capacity_of shape)) (recorded shape offers wants h puts takes) (shape.has_cells, omega arith)
-    (recorded_are_counted shape offers wants h puts takes run (law_of_spans shape h puts takes run) some offered wanted)
+recorded_is_linearizable = grind (arith, counted_is_linearizable, recorded_are_counted, law_of_spans)
 
 pub closed_stays : ClosedStays
 closed_stays = closed-stays ring_law

@@ -47,8 +47,7 @@ never_reads :
     (shape : Shape) (h : List Event) → IsLawful shape h → (s : Side) (looks : List Look) (behind : List Made) → IsQuiet s behind →
     IsPrefix (subhistory s h) (events_of s (look_accesses s shape first_count looks behind)) → NeverReadsAll s shape h
 never_reads shape h lawful s looks behind quiet follows last e start stop zeros =
-    unary_has_one shape h lawful s (counted_in shape looks) (writes_unary shape h lawful s looks behind follows quiet) last start stop
-    (λ n _. numbered_stay_within (counted_in shape looks) last (counted_within shape 0 looks last e) n) zeros
+    search (arith, unary_has_one, counted_in shape looks, writes_unary shape h lawful s looks behind follows quiet, numbered_stay_within, counted_within shape 0 looks last e)
 
 -- ---- the reads of a list of accesses
 
@@ -105,7 +104,4 @@ puts-are_seen shape h puts lawful follows = search (arith, never_reads, quiet_cl
 
 -- a producer does not read the consumer's count as 0 in all bits
 pub takes-are_seen : TakesAreSeen
-takes-are_seen shape h takes lawful follows =
-    let never : NeverReadsAll C shape h =
-    never_reads shape h lawful C (take_looks takes.takes takes.end) [] tt (take_events shape h takes follows) in
-    (never, never_misses C shape h never)
+takes-are_seen shape h takes lawful follows = search (arith, never_reads, take_looks, take_events, never_misses)

@@ -128,8 +128,4 @@ take-take_less (x ∷ y ∷ xs) (suc (suc n)) l =
 pub count_ended_before :
     (shape : Shape) (s : Side) (h : List Event) → IsLawful shape h → (place : ℕ) →
     count_ended s (take place h) ≡ count_begun s (take (clock s h place - 1) (subhistory s h))
-count_ended_before shape s h lawful place =
-    own_count s (before_last s (take place h)) (doers_before s (take place h) (doers_take h place (lawful_doers shape h lawful))) ∙
-    ap (count_begun s)
-    (own_before s (take place h) ∙ ap (λ (l : List Event). take (length l - 1) l) (own_take s h place) ∙
-    take-take_less (subhistory s h) (clock s h place) (clock_within s h place))
+count_ended_before shape s h lawful place = grind (arith, own_count, take, doers_before, doers_take, lawful_doers, own_before, length, own_take, take-take_less, clock_within)

@@ -144,9 +144,7 @@ module _ (shape : Shape) (h : List Event) (puts : Puts) (takes : Takes) (run : I
       (rest, ap (λ l. l ++ rest) (takes_items shape first_count takes.takes takes.end (clock C h t)) ∙ e ∙ sym (puts_items shape first_count puts.puts (clock P h t)))
 
   items : TakesMatchPuts shape h puts takes
-  items t s k i x item st at l =
-      let size : suc i * (2 * width_of shape) ≡ 2 * (suc i * width_of shape) = doubled (suc i) (width_of shape) in
-      ap (λ l. slice_get l (k + i)) (puts_items shape first_count puts.puts (clock P h t)) ∙ law.items t s k i x item st at (omega (arith, l, size))
+  items t s k i x item st at l = grind (arith, doubled, puts_items, law)
 
   empty : EmptyIsFresh shape h puts takes
   empty s k x st o l first q =
@@ -181,25 +179,12 @@ module _ (shape : Shape) (h : List Event) (puts : Puts) (takes : Takes) (run : I
   -- one of a side's own events comes before the end of an interval that ends with a later one
   by_end : (s : Side) (start stop i e : ℕ) → IsPlaceOf s h i start → IsPlaceOf s h e stop ⊎ ((length (subhistory s h) ≤ e) × (stop ≡ length h)) → stop < start → i ≤ e → ⊥
   by_end s start stop i e q (inl r) l m = absurd (omega (arith, clock_rises s h (suc stop) start l, r.past, q.before, m))
-  by_end s start stop i e q (inr (few, past)) l m =
-      absurd (omega (arith, clock_rises s h stop start (omega arith), ap (clock s h) past, clock_end s h, q.before, q.past, clock_within s h (suc start)))
+  by_end s start stop i e q (inr (few, past)) l m = grind (arith, clock_rises s h stop start (omega arith), clock_end s h, clock_within s h (suc start))
 
   -- an event of the producer is not one of the consumer, and not past the end
   apart : (start stop i e : ℕ) → IsPlaceOf P h i start → IsPlaceOf C h e stop ⊎ ((length (subhistory C h) ≤ e) × (stop ≡ length h)) → start ≡ stop → ⊥
-  apart start stop i e q (inl r) same =
-      let both : clock C h (suc start) ≡ suc (clock C h start) = ap (λ t. clock C h (suc t)) same ∙ r.past ∙ ap suc (sym r.before) ∙ ap (λ t. suc (clock C h t)) (sym same) in
-      one_at_once ((clocks_of h).tick start) (omega (arith, q.before, q.past)) both
-    where
-      one_at_once :
-          ((clock P h (suc start) ≡ suc (clock P h start)) × (clock C h (suc start) ≡ clock C h start)) ⊎
-          ((clock P h (suc start) ≡ clock P h start) × (clock C h (suc start) ≡ suc (clock C h start))) ⊎
-          ((clock P h (suc start) ≡ clock P h start) × (clock C h (suc start) ≡ clock C h start)) →
-          clock P h (suc start) ≡ suc (clock P h start) → clock C h (suc start) ≡ suc (clock C h start) → ⊥
-      one_at_once (inl (p, c)) p' c' = omega (arith, c, c')
-      one_at_once (inr (inl (p, c))) p' c' = omega (arith, p, p')
-      one_at_once (inr (inr (p, c))) p' c' = omega (arith, p, p')
-  apart start stop i e q (inr (few, past)) same =
-      absurd (omega (arith, ap (clock P h) same, ap (clock P h) past, clock_end P h, q.before, q.past, clock_within P h (suc start)))
+  apart start stop i e q (inl r) same = grind (arith, clocks_of h)
+  apart start stop i e q (inr (few, past)) same = grind (arith, clock_end, clock_within)
 
   quiet : CellsAreQuiet shape h puts takes
   quiet s n i x st stores s' k i' y st' takes_it cell start stop start' stop' a b (not_after, not_before) =

@@ -62,17 +62,7 @@ multiple_up a b w l = grind (arith, add-mul)
 pub words_order :
     (w : ℕ) (xs : List Span) (s n i s' n' i' : ℕ) (x x' : Span) → IsSpanAt xs s n x → IsSpanAt xs s' n' x' → i < counts x.outcome → i' < counts x'.outcome →
     x.word ≡ 2 * (counts x.outcome * w) → n + i ≤ n' + i' → s + x.scan + 2 * (i * w) ≤ s' + x'.scan + 2 * (i' * w)
-words_order w xs s n i s' n' i' x x' st st' l l' word o = elim (at_most_or_above n n') [
-  | inr m ↦ absurd (omega (arith, stands_numbers xs s' n' s n x' x st' st m, l', o))
-  | inl m ↦ elim (at_most_or_above n' n) [
-    | inr m' ↦ omega (arith, stands_order xs s n s' n' x x' st st' m', word, multiple_up i (counts x.outcome) w (omega (arith, l)))
-    | inl m' ↦ (
-        let same : n' ≡ n = omega (arith, m, m') in
-        let st'' : IsSpanAt xs s' n x' = subst (λ (k : ℕ). IsSpanAt xs s' k x') same st' in
-        let (starts, are) = stands_same xs s n s' x x' st (omega (arith, l)) st'' (omega (arith, l')) in
-        omega (arith, starts, ap (λ (y : Span). y.scan) are, multiple_up i i' w (omega (arith, o, same))))
-  ]
-]
+words_order w xs s n i s' n' i' x x' st st' l l' word o = grind (arith, at_most_or_above, stands_numbers, stands_order, multiple_up, counts, stands_same)
 
 -- ---- from an access to its put
 

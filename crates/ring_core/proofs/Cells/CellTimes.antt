@@ -175,8 +175,7 @@ pub looks_to_cell :
     (shape : Shape) (j : ℕ) (c : Count) (looks : List Look) (behind : List Made) → to_cell j behind ≡ [] →
     to_cell j (look_accesses P shape c looks behind) ≡ word_writes (width_of shape) (cell_items shape j c.number looks)
 looks_to_cell shape j c [] behind none = none
-looks_to_cell shape j c (l ∷ looks) behind none =
-    grind (arith, look_to_cell, word_writes-append, looks_to_cell shape j (after_look shape c l.outcome) looks behind none)
+looks_to_cell shape j c (l ∷ looks) behind none = grind (arith, look_to_cell, word_writes-append, after_look, looks_to_cell shape j (after_look shape c l.outcome) looks behind none)
 
 -- each item of these spans fits
 abbrev pub ItemsFit : Shape → List Span → Type 0

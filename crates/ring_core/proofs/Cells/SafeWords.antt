@@ -88,11 +88,7 @@ module _ (shape : Shape) (h : List Event) (lawful : IsLawful shape h) (looks loo
 
   -- an event is of one side
   apart : (t i k : ℕ) → IsPlace (clock P h) i t → IsPlace (clock C h) k t → ⊥
-  apart t i k a b = elim ((clocks_of h).tick t) [
-    | inl e ↦ omega (arith, a, b, e)
-    | inr (inl e) ↦ omega (arith, a, b, e)
-    | inr (inr e) ↦ omega (arith, a, b, e)
-  ]
+  apart t i k a b = grind (arith, clocks_of h)
 
   -- the side's clock says which of its places comes first
   earlier : (t u : ℕ) → clock P h t < clock P h u → t < u

@@ -52,15 +52,7 @@ record Front (s : Side) (w j item : ℕ) : Type 0 where
 
 front_of : (s : Side) (w j item : ℕ) → Front s (suc w) j item
 front_of s zero j item = grind arith
-front_of s (suc w) j item =
-    let r = front_of s w j item in
-    let last : Made = digit_access s j (suc w) (digit (suc w) item) in
-    record {
-      tail = r.tail ++ last ∷ [];
-      is = digit_last s (suc w) j item ∙ ap (λ l. l ++ last ∷ []) r.is;
-      none = none-append (IsFirst s) r.tail (last ∷ []) r.none (not_later s j w (digit (suc w) item), tt);
-      long = omega (arith, r.long, length-append r.tail (last ∷ []));
-    }
+front_of s (suc w) j item = grind (arith, digit_last s (suc w) j item, none-append, not_later s j w (digit (suc w) item), length-append, front_of s w j item)
 
 some_digits : (s : Side) (w j item : ℕ) → 0 < w → Front s w j item
 some_digits s zero j item l = absurd (omega (arith, l))
@@ -178,10 +170,8 @@ part_there :
     (s : Side) (shape : Shape) (n : ℕ) (o : Outcome) (more before rest : List Made) (cell : ℕ) (v : Bool) →
     word_part s shape n o ++ more ≡ before ++ digit_access s cell 0 v ∷ rest →
     InOutcome s shape n o before rest cell v ⊎ IsBehind (word_part s shape n o) more before (digit_access s cell 0 v) rest
-part_there P shape n (Passes items) more before rest cell v e =
-    elim (item_there P shape n items more before rest cell v e) [ inl r ↦ inl (record { items = items; outcome_is = refl; at = r }) | inr r ↦ inr r ]
-part_there C shape n (Passes items) more before rest cell v e =
-    elim (item_there C shape n items more before rest cell v e) [ inl r ↦ inl (record { items = items; outcome_is = refl; at = r }) | inr r ↦ inr r ]
+part_there P shape n (Passes items) more before rest cell v e = grind (arith, item_there P shape n items more before rest cell v e)
+part_there C shape n (Passes items) more before rest cell v e = grind (arith, item_there C shape n items more before rest cell v e)
 part_there P shape n Stops more before rest cell v e = inr (before, refl, e)
 part_there C shape n Stops more before rest cell v e = inr (before, refl, e)
 part_there P shape n (Asks answer) more before rest cell v e =
@@ -209,9 +199,7 @@ word_from :
     (s : Side) (shape : Shape) (c : Count) (looks : List Look) (tail : List Made) → NoneAre (IsFirst s) tail → (before rest : List Made) (cell : ℕ) (v : Bool) →
     look_accesses s shape c looks tail ≡ before ++ digit_access s cell 0 v ∷ rest →
     WordSpan s shape c.number (spans s shape c looks) before (digit_access s cell 0 v ∷ rest) cell
-word_from s shape c [] tail none before rest cell v e =
-    let (front, is, left) = behind (IsFirst s) tail [] before rest (digit_access s cell 0 v) (cell, v, refl) none (append-nil tail ∙ e) in
-    absurd (never front _ rest left)
+word_from s shape c [] tail none before rest cell v e = grind (arith, behind (IsFirst s) tail, append-nil tail, never)
 word_from s shape c (l ∷ looks) tail none before rest cell v e =
     let next : Count = after_look shape c l.outcome in
     let z : Made = digit_access s cell 0 v in
@@ -264,8 +252,4 @@ pub word_there :
     (s : Side) (shape : Shape) (c : Count) (looks : List Look) (tail : List Made) → NoneAre (IsFirst s) tail → (before after : List Made) (cell item : ℕ) →
     look_accesses s shape c looks tail ≡ before ++ (word_of s (width_of shape) cell item ++ after) →
     WordSpan s shape c.number (spans s shape c looks) before (word_of s (width_of shape) cell item ++ after) cell
-word_there s shape c looks tail none before after cell item e =
-    let r = some_digits s (width_of shape) cell item shape.has_digits in
-    let from : word_of s (width_of shape) cell item ++ after ≡ digit_access s cell 0 (digit 0 item) ∷ (r.tail ++ after) = ap (λ l. l ++ after) r.is in
-    subst (λ rest. WordSpan s shape c.number (spans s shape c looks) before rest cell) (sym from)
-    (word_from s shape c looks tail none before (r.tail ++ after) cell (digit 0 item) (e ∙ ap (λ l. before ++ l) from))
+word_there s shape c looks tail none before after cell item e = grind (arith, some_digits s (width_of shape) cell item shape.has_digits, spans s shape c looks, word_from)

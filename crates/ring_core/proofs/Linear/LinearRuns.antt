@@ -64,15 +64,7 @@ module _ (shape : Shape) (h : List Event) (puts : Puts) (takes : Takes) (run : I
   events = events_in (put_phrases shape first_count puts.puts)
 
   tallies : Tallies h (capacity_of shape) (counts_begun (put_spans shape puts)) (counts_ended (put_spans shape puts)) (counts_begun (take_spans shape takes)) (counts_ended (take_spans shape takes))
-  tallies = record {
-    has_cell = shape.has_cells;
-    few = λ t. (law.within t).0;
-    room = λ t. (law.within t).1;
-    puts_end = λ i. (ended_begun (batch_of shape) (put_spans shape puts) (proper_puts shape puts run.puts_follow.are) i).0;
-    takes_end = λ i. (ended_begun (take_batch_of shape) (take_spans shape takes) (proper_takes shape takes run.takes_follow.are) i).0;
-    up_p = clock_rises P h;
-    up_c = clock_rises C h;
-  }
+  tallies = grind (arith, ended_begun, put_spans, proper_puts, take_spans, proper_takes, clock_rises)
 
   taken_is : counts_begun (take_spans shape takes) (length (subhistory C h)) ≡ taken
   taken_is = sym (taken_begun_is shape first_count takes.takes takes.end (length (subhistory C h)))

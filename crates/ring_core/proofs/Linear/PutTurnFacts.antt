@@ -99,8 +99,7 @@ pub put_turns-items :
 put_turns-items shape c start [] closes t = grind (arith, close_items)
 put_turns-items shape c start (Stored seen items ∷ puts) closes t =
     grind (arith, put_long, join_items, lt-behind, put_turns-items shape (stored_after shape c (Stored seen items)) (start + put_long shape c (Stored seen items)) puts closes t)
-put_turns-items shape c start (Full seen ∷ puts) closes t =
-    grind (arith, put_long, full_items, put_turns-items shape c (start + put_long shape c (Full seen)) puts closes t)
+put_turns-items shape c start (Full seen ∷ puts) closes t = search (arith, put_long, full_items, put_turns-items shape c (start + put_long shape c (Full seen)) puts closes t)
 
 -- ---- the close
 
@@ -147,8 +146,7 @@ module _ (shape : Shape) (h : List Event) (puts : Puts) (takes : Takes) (law : L
   -- what has begun before a span that is there
   begun_there : (start n : ℕ) (y : Span) → IsSpanAt (put_spans shape puts) start n y → (i : ℕ) → i ≤ start → counts_begun (put_spans shape puts) i ≤ n
   begun_there start n y st i l =
-      let here : counts_begun (put_spans shape puts) (start + 0) ≡ n = begun_at (batch_of shape) (put_spans shape puts) proper_puts start n y st 0 (omega arith) in
-      omega (arith, here, begun_up (batch_of shape) (put_spans shape puts) proper_puts i (start + 0) (omega (arith, l)))
+      grind (arith, counts_begun (put_spans shape puts) (start + 0), put_spans shape puts, begun_at (batch_of shape) (put_spans shape puts) proper_puts start n y st 0 (omega arith), begun_up (batch_of shape) (put_spans shape puts) proper_puts i (start + 0) (omega (arith, l)))
 
   pub puts_hold :
       (c : Count) (start : ℕ) (rest : List Put) (closes : Bool) → Stand c start rest → start + events_in (put_phrases shape c rest) ≡ all_events →

@@ -51,8 +51,7 @@ module _ (shape : Shape) (h : List Event) (puts : Puts) (takes : Takes) (law : L
 
   stand_on : (y : Span) (ys : List Span) (start stop k k' : ℕ) → stop ≡ start + whole y → k' ≡ k + counts y.outcome → Stand (y ∷ ys) start k → Stand ys stop k'
   stand_on y ys start stop k k' e f stand s n x st =
-      stands_at (take_spans shape takes) (start + (whole y + s)) (stop + s) (k + (counts y.outcome + n)) (k' + n) x (omega (arith, e)) (omega (arith, f))
-      (stand (whole y + s) (counts y.outcome + n) x (inr (s, n, refl, refl, st)))
+      grind (arith, stands_at (take_spans shape takes) (start + (whole y + s)) (stop + s) (k + (counts y.outcome + n)) (k' + n) x (omega (arith, e)) (omega (arith, f)) (stand (whole y + s) (counts y.outcome + n) x (inr (s, n, refl, refl, st))), take_spans shape takes, whole y, counts y.outcome)
 
   stand_first : (y : Span) (ys : List Span) (start k : ℕ) → Stand (y ∷ ys) start k → IsSpanAt (take_spans shape takes) start k y
   stand_first y ys start k stand =
@@ -65,14 +64,11 @@ module _ (shape : Shape) (h : List Event) (puts : Puts) (takes : Takes) (law : L
       (all_events < clock P h t) × (taken_in c.number rest ≡ all_stored) × (puts.closes ≡ true)
 
   told_on : (c : Count) (start : ℕ) (x : Take) (rest : List Take) (end : End) → Told c start (x ∷ rest) end → Told (count_after shape c x) (start + take_long shape c x) rest end
-  told_on c start x rest end told t tells l =
-      let more : List Made = take_phrases shape (count_after shape c x) rest in
-      told t tells (omega (arith, l, length-append (take_phrase shape c x ++ more) (end_phrase end), length-append (take_phrase shape c x) more, length-append more (end_phrase end)))
+  told_on c start x rest end told t tells l = grind (arith, length-append)
 
   begun_there : (start k : ℕ) (y : Span) → IsSpanAt (take_spans shape takes) start k y → (i : ℕ) → i ≤ start → counts_begun (take_spans shape takes) i ≤ k
   begun_there start k y st i l =
-      let here : counts_begun (take_spans shape takes) (start + 0) ≡ k = begun_at (take_batch_of shape) (take_spans shape takes) proper_takes start k y st 0 (omega arith) in
-      omega (arith, here, begun_up (take_batch_of shape) (take_spans shape takes) proper_takes i (start + 0) (omega (arith, l)))
+      grind (arith, counts_begun (take_spans shape takes) (start + 0), take_spans shape takes, begun_at (take_batch_of shape) (take_spans shape takes) proper_takes start k y st 0 (omega arith), begun_up (take_batch_of shape) (take_spans shape takes) proper_takes i (start + 0) (omega (arith, l)))
 
   -- the place where an operation begins
   first_at : (start : ℕ) → start < length (subhistory C h) → IsPlaceOf C h start (place_of C h start)

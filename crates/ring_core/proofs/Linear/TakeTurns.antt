@@ -74,8 +74,7 @@ pub take_turns-ops :
     (h : List Event) (shape : Shape) (c : Count) (start : ℕ) (takes : List Take) (end : End) (t : ℕ) →
     take_ops (take_turns h shape c start takes end t) ≡ take_operations shape c start takes end t
 take_turns-ops h shape c start [] end t = grind (arith, one_op)
-take_turns-ops h shape c start (x ∷ takes) end t =
-    grind (arith, join_ops, turns_of-ops, take_turns-ops h shape (count_after shape c x) (start + take_long shape c x) takes end t)
+take_turns-ops h shape c start (x ∷ takes) end t = search (arith, join_ops, turns_of-ops, take_turns-ops h shape (count_after shape c x) (start + take_long shape c x) takes end t)
 
 -- ---- if nothing has begun there are none
 

@@ -63,15 +63,7 @@ kept_size old item items n most e len less last = grind (arith, length-append)
 pub word_keeps :
     (p : ConsumerState) (w : ReaderState) (row : UnaryState) (items : List ℕ) → IsConsumer p → p.stage ≡ Loading → length items ≡ p.most →
     row ≡ record p.row { value = (p.count + p.most) % modulus_of p.shape } → IsConsumer (record p { stage = Counting; word = w; row = row; items = items })
-word_keeps p w row items is e size begun =
-    let (counted, taking, loads, less, few, unread) = at_stage p Loading is e in
-    stays_one p Counting p.scan w row items p.wanted p.most is (ap (λ (r : UnaryState). r.side) begun) (ap (λ (r : UnaryState). r.modulus) begun) (
-      counting_on p.shape p.row row p.count items p.most counted is.count_below (sym size) (omega (arith, size, less)) (omega (arith, size, few, taking.few, take_batch_below p.shape)) begun,
-      same_taking p Counting p.scan w row items p.most taking,
-      omega (arith, less),
-      size,
-      few,
-    )
+word_keeps p w row items is e size begun = grind (arith, at_stage, stays_one, counting_on, take_batch_below, same_taking)
 
 -- between words, the write that counts those read begins
 pub now_keeps :

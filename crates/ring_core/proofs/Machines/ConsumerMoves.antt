@@ -262,16 +262,7 @@ whole_words :
     made ≡ front ++ (made_of_take p.shape (count_taken p.shape calls).number look p.items ++ reads) →
     reads ++ x ≡ word_read (width_of p.shape) ((p.cell + length p.items) % capacity_of p.shape) item →
     made ++ x ≡ front ++ (made_of_take p.shape (count_taken p.shape calls).number look (p.items ++ item ∷ []) ++ [])
-whole_words p calls look front reads x made item cell_is made_is all =
-    let n : ℕ = (count_taken p.shape calls).number in
-    let scans : List Made = finding_phrase look in
-    let words : List Made = words_read p.shape n p.items in
-    let word : List Made = word_read (width_of p.shape) ((n + length p.items) % capacity_of p.shape) item in
-    let all_is : reads ++ x ≡ word =
-    all ∙ ap (λ k. word_read (width_of p.shape) k item) (far_from p.cell n (length p.items) (capacity_of p.shape) cell_is) in
-    ap (λ l. l ++ x) made_is ∙ longer front (scans ++ words) reads x ∙ ap (λ l. front ++ ((scans ++ words) ++ l)) all_is ∙
-    ap (λ l. front ++ l) (append_assoc scans words word ∙ ap (λ l. scans ++ l) (sym (words_read-push p.shape n p.items item)) ∙
-    sym (append-nil (scans ++ words_read p.shape n (p.items ++ item ∷ []))))
+whole_words p calls look front reads x made item cell_is made_is all = grind (arith, length, far_from, longer, append_assoc, words_read-push, append-nil)
 
 pub item_fits : (shape : Shape) (items : List ℕ) (item : ℕ) → AllFit shape items → item < 2 ^ width_of shape → AllFit shape (items ++ item ∷ [])
 item_fits shape items item fit last = fit-push shape items item fit (last, tt)

@@ -46,8 +46,7 @@ one_item (item ∷ []) some few = refl
 one_item (item ∷ next ∷ items) some few = absurd (omega (arith, few))
 
 pub takes-of_one : TakesOfOne
-takes-of_one shape calls (Item seen items) are of =
-    grind (arith, one_item items ((take.are-last shape first_count calls.takes (Item seen items) are).1).some of.0)
+takes-of_one shape calls (Item seen items) are of = search (arith, one_item items ((take.are-last shape first_count calls.takes (Item seen items) are).1).some of.0)
 takes-of_one shape calls (ItemAfterClose seen again items) are of =
     grind (arith, one_item items ((take.are-last shape first_count calls.takes (ItemAfterClose seen again items) are).2).some of.0)
 takes-of_one shape calls (Empty seen) are of = refl

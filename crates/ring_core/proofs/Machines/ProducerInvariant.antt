@@ -91,7 +91,4 @@ pub word_whole :
     (p : ProducerState) (w : WriterState) (due : Option Access) → IsWritingWord p → w ≡ record p.word { written = suc p.word.written } → due ≡ None →
     ((made : List Made) → WriterStands w made → IsNext (word_write w.width w.cell w.item) made due) →
     (made : List Made) → WriterStands w made → made ≡ word_write (width_of p.shape) ((p.cell + p.index) % capacity_of p.shape) p.word.item
-word_whole p w due is fed none next made stands =
-    let whole : made ≡ word_write w.width w.cell w.item = subst (λ d. IsNext (word_write w.width w.cell w.item) made d) none (next made stands) in
-    whole ∙ ap (λ (x : WriterState). word_write x.width x.cell x.item) fed ∙ ap (λ n. word_write n p.word.cell p.word.item) is.width_is ∙
-    ap (λ n. word_write (width_of p.shape) n p.word.item) is.cell_is
+word_whole p w due is fed none next made stands = grind arith

@@ -171,25 +171,14 @@ pub word_next :
     slice_get p.items p.index ≡ Some p.word.item → WriterStands new [] →
     ProducerMoves p answer (record p { word = new; index = suc p.index })
 word_next p w new answer e goes whole item_is fresh calls made access stands due =
-    let (rests, seen, has, writes, words, made_is) = made_at Storing p calls made e stands in
-    let x : List Made = answered access answer ∷ [] in
-    put_stays p Storing p.scan new p.row (suc p.index) calls made (made ++ x) e refl stands (
-      rests,
-      seen,
-      has,
-      [],
-      fresh,
-      whole_words p calls (put_phrases p.shape first_count calls.puts) (scan_phrase (row_read_by P) seen) writes x made stands.cell_is item_is made_is
-          (whole (writes ++ x) (goes writes access words (due_is Storing p access e due))),
-    )
+    search (arith, made_at Storing p calls made e stands, put_stays, whole_words, due_is Storing p access e due)
 
 pub word_so :
     (p : ProducerState) (w new : WriterState) (answer : Bool) (i : ℕ) → i ≡ suc p.index → p.stage ≡ Storing → WordGoesOn p.word w answer →
     ((writes : List Made) → WriterStands w writes → writes ≡ word_write (width_of p.shape) ((p.cell + p.index) % capacity_of p.shape) p.word.item) →
     slice_get p.items p.index ≡ Some p.word.item → WriterStands new [] →
     ProducerMoves p answer (record p { word = new; index = i })
-word_so p w new answer i so e goes whole item_is fresh calls made access stands due =
-    grind (arith, word_next p w new answer e goes whole item_is fresh calls made access stands due)
+word_so p w new answer i so e goes whole item_is fresh calls made access stands due = search (arith, word_next p w new answer e goes whole item_is fresh calls made access stands due)
 
 pub word_over :
     (p : ProducerState) (w : WriterState) (row : UnaryState) (answer : Bool) → p.stage ≡ Storing → WordGoesOn p.word w answer →

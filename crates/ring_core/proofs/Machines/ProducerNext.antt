@@ -78,8 +78,7 @@ begins_scan shape items calls made part c are o batch below made_is (rest, e) =
 put_short :
     (shape : Shape) (c : Count) (items : List ℕ) (x : puts.Put) → IsCount shape c → IsPutOf shape c.number items x → IsPut shape c.number x →
     length (put_phrase shape c x) ≤ longest_of shape items
-put_short shape c [] (Stored seen stored) is of (below, room, batch) =
-    absurd (omega (arith, batch.some, ap length of, (taken_few [] (room_in shape (c.number % modulus_of shape) seen)).1))
+put_short shape c [] (Stored seen stored) is of (below, room, batch) = grind (arith, length, taken_few)
 put_short shape c (item ∷ []) (Stored seen stored) is of p = single (room_in shape (c.number % modulus_of shape) seen) of
   where
     single : (r : ℕ) → stored ≡ take r (item ∷ []) → length (put_phrase shape c (Stored seen stored)) ≤ longest_of shape (item ∷ [])
@@ -94,16 +93,10 @@ put_short shape c (item ∷ []) (Stored seen stored) is of p = single (room_in s
         one r f =
             subst (λ (l : List ℕ). length (put_phrase shape c (Stored seen l)) ≤ longest_of shape (item ∷ [])) (sym f)
             (item_puts-are_short shape c seen item is (subst (λ (l : List ℕ). IsPut shape c.number (Stored seen l)) f p))
-put_short shape c (item ∷ next ∷ items) (Stored seen stored) is of p =
-    let all : List ℕ = item ∷ next ∷ items in
-    let few : length stored ≤ length all = omega (arith, ap length of, (taken_few all (room_in shape (c.number % modulus_of shape) seen)).1) in
-    omega (arith, puts-are_short shape c seen stored is p, multiple_up (length stored) (length all) (width_of shape) few)
+put_short shape c (item ∷ next ∷ items) (Stored seen stored) is of p = grind (arith, length, taken_few, puts-are_short, multiple_up)
 put_short shape c [] (Full seen) is of p = full_puts-are_short shape c seen p
 put_short shape c (item ∷ []) (Full seen) is of p = full_puts-are_short shape c seen p
-put_short shape c (item ∷ next ∷ items) (Full seen) is of p =
-    let all : List ℕ = item ∷ next ∷ items in
-    let one : 1 * width_of shape ≡ width_of shape = omega arith in
-    omega (arith, full_puts-are_short shape c seen p, multiple_up 1 (length all) (width_of shape) (omega arith), one, shape.room_to_count, shape.has_batch)
+put_short shape c (item ∷ next ∷ items) (Full seen) is of p = grind (arith, full_puts-are_short, multiple_up, length)
 
 pub begins_short :
     (shape : Shape) (c : Call) (calls : Puts) (made : List Made) (y : Made) → BeginsCall shape c calls (made ++ y ∷ []) →

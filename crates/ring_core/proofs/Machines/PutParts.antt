@@ -38,9 +38,7 @@ record From (shape : Shape) (c : Count) (rest : List Made) : Type 0 where
   rest_is : rest ≡ puts_from shape c puts close
 
 from_calls : (shape : Shape) (puts : List Put) (rest : List Made) → ArePuts shape 0 puts → GoesBehind shape puts rest → From shape (count_behind shape puts) rest
-from_calls shape puts rest are g =
-    let (more, f, e, is, later) = first_puts shape first_count puts g.calls.puts g.calls.closes rest (first_is_count shape) are g.are (sym g.program_is) in
-    record { puts = more; close = g.calls.closes; is_count = is; are = later; rest_is = e }
+from_calls shape puts rest are g = grind (arith, first_puts shape first_count puts g.calls.puts g.calls.closes rest (first_is_count shape) are g.are (sym g.program_is), first_is_count shape)
 
 -- ---- the next access
 
@@ -131,15 +129,7 @@ words_go_on shape n (x ∷ xs) (y ∷ ys) zs tail f g none e =
 word_next :
     (cell n w value y : ℕ) (x : Made) (rest zs : List Made) → n < w →
     writes_in (Cell cell) (digit_writes value n) ++ x ∷ rest ≡ writes_in (Cell cell) (digit_writes y w) ++ zs → (v : Bool) × (x ≡ Write (Cell cell n) v)
-word_next cell n w value y x rest zs l e =
-    let (later, is) = digits_split y n w l in
-    let here : RowWrite = record { bit = n; value = digit n y } in
-    let made : List RowWrite → List Made = writes_in (Cell cell) in
-    let whole : made (digit_writes y w) ++ zs ≡ made (digit_writes y n) ++ (made (here ∷ later) ++ zs) = grind (arith, map-append, append_assoc) in
-    let parts : (digit_writes value n ≡ digit_writes y n) × (x ∷ rest ≡ made (here ∷ later) ++ zs) =
-    same_writes cell (digit_writes value n) (digit_writes y n) (x ∷ rest) (made (here ∷ later) ++ zs)
-    (length-digit_writes value n ∙ sym (length-digit_writes y n)) (e ∙ whole) in
-    grind arith
+word_next cell n w value y x rest zs l e = grind (arith, digits_split y n w l, map-append, append_assoc, same_writes, length-digit_writes value n, length-digit_writes y n)
 
 some_write : (ws : List RowWrite) → 1 ≤ length ws → (w : RowWrite) × (more : List RowWrite) × (ws ≡ w ∷ more)
 some_write [] l = absurd (omega (arith, l))
@@ -149,10 +139,7 @@ some_write (w ∷ more) l = (w, more, refl)
 first_word :
     (shape : Shape) (n y : ℕ) (ys : List ℕ) (tail : List Made) →
     (rest : List Made) × (words_phrase shape n (y ∷ ys) ++ tail ≡ Write (Cell (n % capacity_of shape) 0) (digit 0 y) ∷ rest)
-first_word shape n y ys tail =
-    let word : List Made = word_write (width_of shape) (n % capacity_of shape) y in
-    let (rest, e) = word_first (width_of shape) (n % capacity_of shape) y (words_phrase shape (suc n) ys ++ tail) shape.has_digits in
-    (rest, append_assoc word (words_phrase shape (suc n) ys) tail ∙ e)
+first_word shape n y ys tail = grind (arith, word_first (width_of shape) (n % capacity_of shape) y (words_phrase shape (suc n) ys ++ tail) shape.has_digits, append_assoc)
 
 -- what a put stores, after complete words
 left_words :
@@ -258,8 +245,7 @@ one-puts shape c (x ∷ puts) close (is, are) = grind (arith, append_assoc, one-
 
 pub last-puts_read_one : LastPutsReadOne
 last-puts_read_one shape calls p made i v rest e last =
-    one_at (row_read_by P) (modulus_of shape) made (Read (row_read_by P i) v) rest
-    (subst (AllOne (row_read_by P) (modulus_of shape)) e (one-puts shape first_count calls.puts calls.closes p)) i v refl last
+    grind (arith, one_at (row_read_by P) (modulus_of shape) made (Read (row_read_by P i) v) rest (subst (AllOne (row_read_by P) (modulus_of shape)) e (one-puts shape first_count calls.puts calls.closes p)) i v refl last, one-puts shape first_count calls.puts calls.closes p)
 
 pub scans-or_closes : ScansOrCloses
 scans-or_closes shape puts x rest are g = begins_call shape (count_behind shape puts) x rest (from_calls shape puts (x ∷ rest) are g)
@@ -269,9 +255,7 @@ scans-on shape puts zeros x rest are g =
     goes_on_scanning shape (count_behind shape puts) zeros x rest (from_calls shape puts (zero_reads (row_read_by P) (suc zeros) ++ x ∷ rest) are g)
 
 pub stores-or_counts : StoresOrCounts
-stores-or_counts shape puts seen items x rest are room fit g =
-    chooses shape (count_behind shape puts) seen items x rest room fit
-    (from_calls shape puts (scan seen ++ (words_phrase shape (count_behind shape puts).number items ++ x ∷ rest)) are g)
+stores-or_counts shape puts seen items x rest are room fit g = grind (arith, chooses, from_calls)
 
 pub stores-on : StoresOn
 stores-on shape puts seen items value digits x rest are room fit below g =

@@ -175,8 +175,7 @@ behind_takes shape c (ItemAfterClose seen again items ∷ before) rest end s n x
     (omega arith)
     (stands_behind z zs (events_in (take_phrases shape next before) + s) (take_counts before + n) s' n' x refl (omega arith)
     (behind_takes shape next before rest end s n x st))
-behind_takes shape c (Empty seen ∷ before) rest end s n x st =
-    grind (arith, stands_behind, take_looks, length-append, take_phrase-empty, behind_takes shape c before rest end s n x st)
+behind_takes shape c (Empty seen ∷ before) rest end s n x st = search (arith, stands_behind, take_looks, length-append, take_phrase-empty, behind_takes shape c before rest end s n x st)
 
 take_phrases-push :
     (shape : Shape) (c : Count) (before : List Take) (x : Take) →

@@ -5,9 +5,7 @@ use Rattle.ring_core.specs.Counts.{distance}
 
 -- the distance of a number from one that is less than the modulus below it
 distance_up : (modulus a r : ℕ) → r < modulus → distance modulus ((a + r) % modulus) (a % modulus) ≡ r
-distance_up modulus a r l =
-    let e : a + r + (modulus - a % modulus) ≡ r + modulus * (a / modulus + 1) = omega (arith, mod-add-div a modulus) in
-    mod-add-mod (a + r) modulus (modulus - a % modulus) ∙ ap (λ (m : ℕ). m % modulus) e ∙ add-mul-mod_self_left r modulus (a / modulus + 1) ∙ mod-eq_of_lt l
+distance_up modulus a r l = grind (arith, mod-add-div a modulus, mod-add-mod (a + r) modulus (modulus - a % modulus), add-mul-mod_self_left r modulus (a / modulus + 1), mod-eq_of_lt l)
 
 -- the same, by the two numbers
 pub distance_of : (modulus a n : ℕ) → a ≤ n → n < a + modulus → distance modulus (n % modulus) (a % modulus) ≡ n - a

@@ -45,8 +45,7 @@ pub takes_as_looks :
     take_phrases shape c takes ++ end_phrase end ≡ look_accesses C shape c (take_looks takes end) []
 takes_as_looks shape c [] Open = refl
 takes_as_looks shape c [] (Closed seen again) = closed_first shape c seen again
-takes_as_looks shape c (Item seen items ∷ takes) end =
-    grind (arith, item_first, items_joined, takes_as_looks shape (count_after shape c (Item seen items)) takes end)
+takes_as_looks shape c (Item seen items ∷ takes) end = search (arith, item_first, items_joined, takes_as_looks shape (count_after shape c (Item seen items)) takes end)
 takes_as_looks shape c (ItemAfterClose seen again items ∷ takes) end =
     grind (arith, after_first, items_joined, takes_as_looks shape (count_after shape c (ItemAfterClose seen again items)) takes end)
 takes_as_looks shape c (Empty seen ∷ takes) end = grind (arith, empty_first, takes_as_looks shape c takes end)
@@ -97,10 +96,7 @@ pub all_proper :
     AllProper most (spans s shape c looks)
 all_proper most s shape c [] fits h p = tt
 all_proper most s shape c (l ∷ looks) fits h p =
-    let r = count_some most s shape c l.outcome fits h p.0 in (
-      record { scan = omega (arith, length-scan (row_read_by s) l.seen); few = r.0; count = r.1 },
-      all_proper most s shape (after_look shape c l.outcome) looks fits (look_is_count shape c l.outcome h) p.1,
-    )
+    grind (arith, count_some most s shape c l.outcome fits h p.0, length-scan (row_read_by s) l.seen, after_look shape c l.outcome, look_is_count shape c l.outcome h, all_proper most s shape (after_look shape c l.outcome) looks fits (look_is_count shape c l.outcome h) p.1)
 
 -- the spans of calls that follow one another are proper
 pub proper_puts : (shape : Shape) (puts : Puts) → ArePuts shape 0 puts.puts → AllProper (batch_of shape) (put_spans shape puts)
@@ -237,8 +233,7 @@ each_at :
     (start m : ℕ) (x : Span) → IsSpanAt (spans s shape c looks) start m x → rule (c.number + m) x.seen x.outcome
 each_at rule s shape c [] h start m x st = elim st [ ]
 each_at rule s shape c (l ∷ looks) h start m x (inl st) = grind arith
-each_at rule s shape c (l ∷ looks) h start m x (inr st) =
-    grind (arith, after_counts, each_at rule s shape (after_look shape c l.outcome) looks h.1 st.0 st.1 x st.4)
+each_at rule s shape c (l ∷ looks) h start m x (inr st) = grind (arith, after_counts, after_look, each_at rule s shape (after_look shape c l.outcome) looks h.1 st.0 st.1 x st.4)
 
 -- what is true of each look: the scan returns a number below the modulus, and the items fit
 pub record FitsShape (shape : Shape) (seen : ℕ) (o : Outcome) : Type 0 where
@@ -285,8 +280,7 @@ puts_keep shape n (Full seen ∷ puts) ((below, full), h) = grind (arith, stops_
 
 takes_keep : (shape : Shape) (k : ℕ) (takes : List Take) (end : End) → AreTakes shape k takes end → EachLook (TakeRule shape) k (take_looks takes end)
 takes_keep shape k [] end h = grind (arith, asks_fits, not_shown, stops_fits)
-takes_keep shape k (Item seen items ∷ takes) end (((below, few, room), batch), h) =
-    ((passes_fits shape seen items below batch.fit, λ _. (few, room), λ e. absurd (omega (arith, e, batch.some))), takes_keep shape (number_past k items) takes end h)
+takes_keep shape k (Item seen items ∷ takes) end (((below, few, room), batch), h) = grind (arith, passes_fits, takes_keep shape (number_past k items) takes end h)
 takes_keep shape k (ItemAfterClose seen again items ∷ takes) end (((below, none), (below', few, room), batch), h) =
     grind (arith, asks_fits, not_shown, passes_fits, takes_keep shape (number_past k items) takes end h)
 takes_keep shape k (Empty seen ∷ takes) end ((below, none), h) = grind (arith, asks_fits, not_shown, takes_keep shape k takes end h)
@@ -331,6 +325,5 @@ take_fits shape c takes end h start m x st = (take_rule shape c takes end h star
 pub last_two : (shape : Shape) (c : Count) (takes : List Take) (seen again : ℕ) → LastTwo (spans C shape c (take_looks takes (Closed seen again)))
 last_two shape c [] seen again = two_last _ _ refl refl
 last_two shape c (Item u items ∷ takes) seen again = two_after _ _ (last_two shape (after_look shape c (Passes items)) takes seen again)
-last_two shape c (ItemAfterClose u v items ∷ takes) seen again =
-    two_after _ _ (two_after _ _ (last_two shape (after_look shape c (Passes items)) takes seen again))
+last_two shape c (ItemAfterClose u v items ∷ takes) seen again = grind (arith, two_after, after_look, last_two shape (after_look shape c (Passes items)) takes seen again)
 last_two shape c (Empty u ∷ takes) seen again = two_after _ _ (last_two shape c takes seen again)

@@ -38,11 +38,7 @@ module _
     (follows : IsPrefix (subhistory w h) (events_of w (look_accesses w shape first_count looks behind))) where
   -- the writes to its count are those of unary writes of its counts
   pub writes_unary : IsQuiet w behind → WritesUnary w h (counted_in shape looks)
-  writes_unary quiet = (
-    count_begun w follows.0,
-    ap (λ l. l ++ count_begun w follows.0) (count_begun_own shape w h lawful) ∙
-        sym (filter_map-append (count_write w) (subhistory w h) follows.0) ∙ ap (count_begun w) follows.1 ∙ count_writes_are w shape looks behind quiet,
-  )
+  writes_unary quiet = grind (arith, count_begun_own shape w h lawful, filter_map-append (count_write w) (subhistory w h) follows.0, count_writes_are w shape looks behind quiet)
 
   abbrev events : List Event
   events = events_of w (look_accesses w shape first_count looks behind)
@@ -145,13 +141,11 @@ pub puts_regular :
     (shape : Shape) (h : List Event) → IsLawful shape h → (puts : Puts) (takes : Takes) → FollowsPuts shape h puts → FollowsTakes shape h takes →
     AreRegular (modulus_of shape) (clock P h) (clock C h) (put_spans shape puts) (take_spans shape takes)
 puts_regular shape h lawful puts takes follows_puts follows_takes =
-    regular_scans shape h lawful P (put_looks puts.puts) (take_looks takes.takes takes.end) (close_phrase puts.closes) [] tt (take_batch_of shape) (take_batch_below shape) (takes_pass shape 0 takes.takes takes.end follows_takes.are)
-    (put_events shape h puts follows_puts) (take_events shape h takes follows_takes)
+    search (arith, regular_scans shape h lawful P (put_looks puts.puts) (take_looks takes.takes takes.end) (close_phrase puts.closes), put_looks puts.puts, take_looks takes.takes takes.end, take_batch_below shape, takes_pass shape 0 takes.takes takes.end follows_takes.are, put_events shape h puts follows_puts, take_events shape h takes follows_takes)
 
 -- the scans of takes are regular, over the count writes of puts
 pub takes_regular :
     (shape : Shape) (h : List Event) → IsLawful shape h → (puts : Puts) (takes : Takes) → FollowsPuts shape h puts → FollowsTakes shape h takes →
     AreRegular (modulus_of shape) (clock C h) (clock P h) (take_spans shape takes) (put_spans shape puts)
 takes_regular shape h lawful puts takes follows_puts follows_takes =
-    regular_scans shape h lawful C (take_looks takes.takes takes.end) (put_looks puts.puts) [] (close_phrase puts.closes) (quiet_close puts.closes) (batch_of shape) (batch_below shape) (puts_pass shape 0 puts.puts follows_puts.are)
-    (take_events shape h takes follows_takes) (put_events shape h puts follows_puts)
+    search (arith, regular_scans shape h lawful C (take_looks takes.takes takes.end) (put_looks puts.puts), take_looks takes.takes takes.end, put_looks puts.puts, quiet_close puts.closes, batch_below shape, puts_pass shape 0 puts.puts follows_puts.are, take_events shape h takes follows_takes, put_events shape h puts follows_puts)

@@ -91,8 +91,7 @@ ended_past y ys i j e = ended_cons y ys i j (counts y.outcome) (omega arith) (le
 -- at each moment at most the last count write that has begun is open
 pub ended_begun : (most : ℕ) (xs : List Span) → AllProper most xs → (i : ℕ) → (counts_ended xs i ≤ counts_begun xs i) × (counts_begun xs i ≤ counts_ended xs i + most)
 ended_begun most [] h i = omega arith
-ended_begun most (y ∷ ys) h i =
-    grind (arith, at_most_or_above, begun_past, ended_past, begun_first, ended_first, begun_middle, ended_begun most ys h.1 (i - whole y))
+ended_begun most (y ∷ ys) h i = grind (arith, at_most_or_above, begun_past, ended_past, begun_first, ended_first, begun_middle, whole, ended_begun most ys h.1 (i - whole y))
 
 -- a span's number is what is counted, up to the start of its count write
 pub begun_at :

@@ -18,19 +18,14 @@ pub state-push :
     {S X : Type 0} → {phrase : S → X → List Made} → {phrases : S → List X → List Made} → {after : S → X → S} → {state : S → List X → S} →
     GoByCalls phrase phrases after state → (s : S) (xs : List X) (x : X) → state s (xs ++ x ∷ []) ≡ after (state s xs) x
 state-push {after} go s [] x = go.next s x [] ∙ go.same (after s x) ∙ ap (λ t. after t x) (sym (go.same s))
-state-push {after} go s (y ∷ xs) x =
-    go.next s y (xs ++ x ∷ []) ∙ state-push go (after s y) xs x ∙ ap (λ t. after t x) (sym (go.next s y xs))
+state-push {after} go s (y ∷ xs) x = grind (arith, state-push go (after s y) xs x)
 
 -- the phrases of calls and of later ones
 pub calls-append :
     {S X : Type 0} → {phrase : S → X → List Made} → {phrases : S → List X → List Made} → {after : S → X → S} → {state : S → List X → S} →
     GoByCalls phrase phrases after state → (s : S) (xs ys : List X) → phrases s (xs ++ ys) ≡ phrases s xs ++ phrases (state s xs) ys
 calls-append {phrases} {state} go s [] ys = sym (ap (λ l. l ++ phrases (state s []) ys) (go.none s) ∙ ap (λ t. phrases t ys) (go.same s))
-calls-append {phrase} {phrases} {after} {state} go s (x ∷ xs) ys =
-    let front : List Made = phrase s x in
-    let rest : List Made = phrases (after s x) xs in
-    go.more s x (xs ++ ys) ∙ ap (λ l. front ++ l) (calls-append go (after s x) xs ys) ∙ sym (append_assoc front rest (phrases (state (after s x) xs) ys)) ∙
-    sym (ap (λ l. l ++ phrases (state s (x ∷ xs)) ys) (go.more s x xs) ∙ ap (λ t. (front ++ rest) ++ phrases t ys) (go.next s x xs))
+calls-append {phrase} {phrases} {after} {state} go s (x ∷ xs) ys = grind (arith, append_assoc, calls-append go (after s x) xs ys)
 
 -- and of one more
 pub calls-push :

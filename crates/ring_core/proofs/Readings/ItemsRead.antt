@@ -59,8 +59,7 @@ not_begun shape c x t l = grind (arith, le-ltb)
 -- within no event no item is put
 pub none_put : (shape : Shape) (c : Count) (puts : List Put) (t : ℕ) → t ≡ 0 → items_put shape c puts t ≡ []
 none_put shape c [] t e = refl
-none_put shape c (x ∷ puts) t e =
-    grind (arith, not_begun, first_items, append-nil, none_put shape (stored_after shape c x) puts (t - events_in (put_phrase shape c x)) (omega (arith, e)))
+none_put shape c (x ∷ puts) t e = search (arith, not_begun, first_items, append-nil, none_put shape (stored_after shape c x) puts (t - events_in (put_phrase shape c x)) (omega (arith, e)))
 
 -- the head of a put is no longer than the put
 head_within : (shape : Shape) (c : Count) (x : Put) → length (head_of shape c x) ≤ length (put_phrase shape c x)
@@ -105,9 +104,7 @@ goes_on head after made left right t left_is none (more, e) begins both early re
 
 -- a close is not a scan
 no_scan_first : (bit_of : ℕ → Bit) (c : ℕ) (xs zs : List Made) → Write X true ∷ zs ≡ scan_phrase bit_of c ++ xs → ⊥
-no_scan_first bit_of c xs zs e =
-    let begins : (v : Bool) × (rest : List Made) × (scan_phrase bit_of c ++ xs ≡ Read (bit_of 0) v ∷ rest) = scan_begins bit_of c xs in
-    absurd (cc)
+no_scan_first bit_of c xs zs e = grind (arith, scan_begins bit_of c xs)
 
 pub same_calls : (a b : Puts) → a.puts ≡ b.puts → a.closes ≡ b.closes → a ≡ b
 same_calls a b p q = ap₂ (λ (x : List Put) (y : Bool). record { puts = x; closes = y }) p q
@@ -231,8 +228,7 @@ first_put :
     (shape : Shape) (c : Count) (x : Put) (ys : List Put) (b : Bool) (tail : List Made) → IsCount shape c → IsPut shape c.number x →
     ArePuts shape c.number ys → put_phrase shape c x ++ tail ≡ puts_from shape c ys b → (more : List Put) × (ys ≡ x ∷ more)
 first_put shape c (Stored u i) ys b tail is p q e =
-    same_stored shape c u i ys b (batch_phrase shape P c i ++ tail) is p q (count_first shape c i tail is p.2)
-    (sym (append_assoc (head_of shape c (Stored u i)) (batch_phrase shape P c i) tail) ∙ e)
+    grind (arith, same_stored shape c u i ys b (batch_phrase shape P c i ++ tail) is p q (count_first shape c i tail is p.2) (sym (append_assoc (head_of shape c (Stored u i)) (batch_phrase shape P c i) tail) ∙ e), count_first shape c i tail is p.2, append_assoc (head_of shape c (Stored u i)) (batch_phrase shape P c i) tail)
 first_put shape c (Full u) ys b tail is p q e = same_full shape c u ys b tail p q e
 
 -- puts whose accesses begin with those of complete puts begin with these, and then continue from their count
@@ -276,8 +272,7 @@ first_calls shape a b zs p q e =
     )
 
 pub puts-are_first : PutsAreFirst
-puts-are_first shape a b p q begins =
-    let (rest, e) = made_first P (put_program shape a) (put_program shape b) begins in first_calls shape a b rest p q e
+puts-are_first shape a b p q begins = grind (arith, made_first P (put_program shape a) (put_program shape b) begins, first_calls)
 
 -- puts that begin with each other are the same
 pub puts-are_read : PutsAreRead

@@ -99,10 +99,7 @@ module _ {X : Type 0} (phrase : Count → X → List Made) (next : Count → X �
 begin_each :
     (s : Side) (es : List Event) (whole rest one other : List Made) → 2 * length whole ≤ length es → one ≡ whole ++ rest →
     IsPrefix es (events_of s one) → IsPrefix es (events_of s other) → IsPrefix (events_of s whole) (events_of s other)
-begin_each s es whole rest one other l is (r, e) (r', e') =
-    let parts : es ++ r ≡ events_of s whole ++ events_of s rest = e ∙ ap (events_of s) is ∙ events_of-append s whole rest in
-    let (more, there, left) = cut (events_of s whole) (events_of s rest) es r (omega (arith, l, length-events s whole)) parts in
-    (more ++ r', sym (append_assoc (events_of s whole) more r') ∙ ap (λ l. l ++ r') (sym there) ∙ e')
+begin_each s es whole rest one other l is (r, e) (r', e') = grind (arith, events_of-append s whole rest, cut, length-events s whole, append_assoc)
 
 -- ---- calls
 
@@ -111,8 +108,7 @@ calls_total :
     {S X : Type 0} → {phrase : S → X → List Made} → {phrases : S → List X → List Made} → {after : S → X → S} → {state : S → List X → S} →
     GoByCalls phrase phrases after state → (s : S) (xs : List X) → total (λ t x. events_in (phrase t x)) after s xs ≡ 2 * length (phrases s xs)
 calls_total go s [] = omega (arith, ap length (go.none s))
-calls_total {phrase} {phrases} {after} go s (x ∷ xs) =
-    omega (arith, ap length (go.more s x xs), calls_total go (after s x) xs, length-append (phrase s x) (phrases (after s x) xs))
+calls_total {phrase} {phrases} {after} go s (x ∷ xs) = grind (arith, length, length-append, calls_total go (after s x) xs)
 
 -- the calls over in one reading are a prefix of the other
 done_begins :
@@ -165,8 +161,7 @@ puts_begin shape a b p q done rest parts begun =
 
 pub puts_over-read : PutsOverAreRead
 puts_over-read shape h a b p q =
-    over_read (puts_go_by_calls shape) P (subhistory P h) first_count a.puts b.puts (close_phrase a.closes) (close_phrase b.closes) p.events q.events
-    (puts_begin shape a b p.are q.are) (puts_begin shape b a q.are p.are)
+    grind (arith, over_read (puts_go_by_calls shape) P (subhistory P h) first_count a.puts b.puts (close_phrase a.closes) (close_phrase b.closes) p.events q.events (puts_begin shape a b p.are q.are) (puts_begin shape b a q.are p.are), puts_go_by_calls shape, puts_begin shape a b p.are q.are, puts_begin shape b a q.are p.are)
 
 -- ---- takes
 
@@ -206,8 +201,7 @@ if_over b x more rest none e = grind arith
 -- the items taken are those of the takes that are over
 pub taken-over : (shape : Shape) (c : Count) (takes : List Take) (t : ℕ) → items_taken shape c takes t ≡ all_taken (takes_over shape c takes t)
 taken-over shape c [] t = refl
-taken-over shape c (x ∷ takes) t =
-    grind (arith, nat_tests, ended_as, if_over, none_over, taken-over shape (count_after shape c x) takes (t - (events_in (take_phrase shape c x))))
+taken-over shape c (x ∷ takes) t = search (arith, nat_tests, ended_as, if_over, none_over, taken-over shape (count_after shape c x) takes (t - (events_in (take_phrase shape c x))))
 
 -- takes that have all ended have taken all their items
 pub taken_all : (shape : Shape) (c : Count) (takes : List Take) (t : ℕ) → 2 * length (take_phrases shape c takes) ≤ t → items_taken shape c takes t ≡ all_taken takes

@@ -16,9 +16,7 @@ pub behind :
     (Is : Made → Type 0) (xs ys before rest : List Made) (z : Made) → Is z → NoneAre Is xs → xs ++ ys ≡ before ++ z ∷ rest →
     (front : List Made) × (before ≡ xs ++ front) × (ys ≡ front ++ z ∷ rest)
 behind Is [] ys before rest z is h e = (before, refl, e)
-behind Is (x ∷ xs) ys [] rest z is h e =
-    let same : z ≡ x = cc in
-    absurd (h.0 (subst Is same is))
+behind Is (x ∷ xs) ys [] rest z is h e = grind arith
 behind Is (x ∷ xs) ys (y ∷ before) rest z is h e = grind (arith, behind Is xs ys before rest z is h.1 cc)
 
 pub never : (front : List Made) (z : Made) (rest : List Made) → [] ≡ front ++ z ∷ rest → ⊥

@@ -94,9 +94,7 @@ pub same_word_read :
     (width cell a b : ℕ) (xs ys : List Made) → a < 2 ^ width → b < 2 ^ width →
     word_read width cell a ++ xs ≡ word_read width cell b ++ ys → (a ≡ b) × (xs ≡ ys)
 same_word_read width cell a b xs ys l m e =
-    let parts : (digit_reads cell a width ≡ digit_reads cell b width) × (xs ≡ ys) =
-    same_parts (digit_reads cell a width) (digit_reads cell b width) xs ys (length-digit_reads cell a width ∙ sym (length-digit_reads cell b width)) e in
-    (digits_tell_items width a b l m (digits_read cell width a b parts.0), parts.1)
+    search (arith, same_parts (digit_reads cell a width) (digit_reads cell b width) xs ys (length-digit_reads cell a width ∙ sym (length-digit_reads cell b width)) e, length-digit_reads cell a width, length-digit_reads cell b width, digits_tell_items, digits_read)
 
 abbrev with_parts : ℕ → Bool → RowWrite
 with_parts b v = record { bit = b; value = v }
@@ -129,9 +127,7 @@ pub same_word_write :
     (width cell a b : ℕ) (xs ys : List Made) → a < 2 ^ width → b < 2 ^ width →
     word_write width cell a ++ xs ≡ word_write width cell b ++ ys → (a ≡ b) × (xs ≡ ys)
 same_word_write width cell a b xs ys l m e =
-    let parts : (digit_writes a width ≡ digit_writes b width) × (xs ≡ ys) =
-    same_writes cell (digit_writes a width) (digit_writes b width) xs ys (length-digit_writes a width ∙ sym (length-digit_writes b width)) e in
-    (digits_tell_items width a b l m (digits_written width a b parts.0), parts.1)
+    search (arith, same_writes cell (digit_writes a width) (digit_writes b width) xs ys (length-digit_writes a width ∙ sym (length-digit_writes b width)) e, length-digit_writes a width, length-digit_writes b width, digits_tell_items, digits_written)
 
 -- ---- words one after the other, and what comes after them
 

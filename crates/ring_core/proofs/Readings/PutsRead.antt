@@ -17,9 +17,7 @@ use Rattle.ring_core.proofs.CountRow.{batch_below, batch_first}
 -- a scan is not a close
 pub no_close : (a : Bool) (bit_of : ℕ → Bit) (c : ℕ) (xs : List Made) → close_phrase a ≡ scan_phrase bit_of c ++ xs → ⊥
 no_close false bit_of c xs e = no_scan bit_of c xs e
-no_close true bit_of c xs e =
-    let begins : (v : Bool) × (rest : List Made) × (scan_phrase bit_of c ++ xs ≡ Read (bit_of 0) v ∷ rest) = scan_begins bit_of c xs in
-    absurd (cc)
+no_close true bit_of c xs e = grind (arith, scan_begins bit_of c xs)
 
 -- a list of puts and its close, from the first put on
 pub puts_stored :
@@ -38,8 +36,7 @@ puts_full shape c seen puts close = append_assoc (scan_phrase (row_read_by P) se
 pub no_room :
     (shape : Shape) (n c d : ℕ) (xs ys : List Made) → LeavesRoom shape (n % modulus_of shape) c → ¬ LeavesRoom shape (n % modulus_of shape) d →
     scan_phrase (row_read_by P) c ++ xs ≡ scan_phrase (row_read_by P) d ++ ys → ⊥
-no_room shape n c d xs ys room none e =
-    none (subst (λ s. LeavesRoom shape (n % modulus_of shape) s) (same_scan (row_read_by P) c d xs ys e).0 room)
+no_room shape n c d xs ys room none e = grind (arith, same_scan (row_read_by P) c d xs ys e)
 
 -- room for some items is room
 pub some_room : (shape : Shape) (n d m : ℕ) → 1 ≤ m → LeavesRoomFor shape n d m → LeavesRoom shape n d
@@ -74,9 +71,7 @@ word_first w cell item behind l =
 pub words_first :
     (shape : Shape) (n item : ℕ) (items : List ℕ) (behind : List Made) → NoCellFirst (words_phrase shape n (item ∷ items) ++ behind) → ⊥
 words_first shape n item items behind none =
-    let word : List Made = word_write (width_of shape) (n % capacity_of shape) item in
-    let (rest, e) = word_first (width_of shape) (n % capacity_of shape) item (words_phrase shape (suc n) items ++ behind) shape.has_digits in
-    none (n % capacity_of shape) 0 (digit 0 item) rest (append_assoc word (words_phrase shape (suc n) items) behind ∙ e)
+    grind (arith, word_first (width_of shape) (n % capacity_of shape) item (words_phrase shape (suc n) items ++ behind) shape.has_digits, append_assoc)
 
 -- words are determined by the accesses
 pub same_words :

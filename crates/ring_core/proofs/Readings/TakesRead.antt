@@ -20,21 +20,16 @@ use Rattle.ring_core.proofs.Readings.Cuts.{begin_each_other, made_first}
 -- what distinguishes the takes: a count that shows items shows them, and the close bit is 0 or 1
 pub item_or_none :
     (shape : Shape) (k c d m : ℕ) (xs ys : List Made) → 1 ≤ m → SeesItems shape k c m → SeesNone shape k d → scan c ++ xs ≡ scan d ++ ys → ⊥
-item_or_none shape k c d m xs ys some (below, few, room) (below', none) e =
-    none (subst (λ s. ShowsItem shape s (k % modulus_of shape)) (same_scan (row_read_by C) c d xs ys e).0 (omega (arith, some, few), room))
+item_or_none shape k c d m xs ys some (below, few, room) (below', none) e = grind (arith, same_scan (row_read_by C) c d xs ys e)
 
 pub open_or_closed : (c d : ℕ) (xs ys : List Made) → scan c ++ (Read X false ∷ xs) ≡ scan d ++ (Read X true ∷ ys) → ⊥
-open_or_closed c d xs ys e =
-    let rest : Read X false ∷ xs ≡ Read X true ∷ ys = (same_scan (row_read_by C) c d (Read X false ∷ xs) (Read X true ∷ ys) e).1 in
-    absurd (cc)
+open_or_closed c d xs ys e = grind (arith, same_scan (row_read_by C) c d (Read X false ∷ xs) (Read X true ∷ ys) e)
 
 -- scans of two counts, with a close bit read as 1 between them
 pub same_twice :
     (c d c' d' : ℕ) (xs ys : List Made) → scan c ++ (Read X true ∷ (scan d ++ xs)) ≡ scan c' ++ (Read X true ∷ (scan d' ++ ys)) →
     (c ≡ c') × (scan d ++ xs ≡ scan d' ++ ys)
-same_twice c d c' d' xs ys e =
-    let scans : (c ≡ c') × (Read X true ∷ (scan d ++ xs) ≡ Read X true ∷ (scan d' ++ ys)) = same_scan (row_read_by C) c c' (Read X true ∷ (scan d ++ xs)) (Read X true ∷ (scan d' ++ ys)) e in
-    (scans.0, cc)
+same_twice c d c' d' xs ys e = grind (arith, scan d, scan d', same_scan (row_read_by C) c c' (Read X true ∷ (scan d ++ xs)) (Read X true ∷ (scan d' ++ ys)) e)
 
 pub after_or_closed :
     (shape : Shape) (k c d c' d' m : ℕ) (xs ys : List Made) → 1 ≤ m → SeesItems shape k d m → SeesNone shape k d' →
@@ -63,11 +58,7 @@ digits_first cell item (suc (suc w)) l =
 
 words_first :
     (shape : Shape) (n item : ℕ) (items : List ℕ) (behind : List Made) → NoCellReadFirst (words_read shape n (item ∷ items) ++ behind) → ⊥
-words_first shape n item items behind none =
-    let word : List Made = word_read (width_of shape) (n % capacity_of shape) item in
-    let (rest, e) = digits_first (n % capacity_of shape) item (width_of shape) shape.has_digits in
-    none (n % capacity_of shape) 0 (digit 0 item) (rest ++ (words_read shape (suc n) items ++ behind))
-    (append_assoc word (words_read shape (suc n) items) behind ∙ ap (λ ws. ws ++ (words_read shape (suc n) items ++ behind)) e)
+words_first shape n item items behind none = grind (arith, digits_first (n % capacity_of shape) item (width_of shape) shape.has_digits, append_assoc)
 
 -- words are determined by the accesses
 pub same_words :
@@ -79,23 +70,14 @@ same_words shape = same_words_by shape (words_read shape) (λ n. word_read (widt
 pub same_items_phrase :
     (shape : Shape) (c : Count) (is : IsCount shape c) (i j : List ℕ) (xs ys : List Made) → IsTakeBatch shape i → IsTakeBatch shape j →
     items_phrase shape c i ++ xs ≡ items_phrase shape c j ++ ys → (i ≡ j) × (xs ≡ ys)
-same_items_phrase shape c is i j xs ys batch batch' e =
-    let w : List ℕ → List Made = words_read shape c.number in
-    let k : List ℕ → List Made = batch_phrase shape C c in
-    let words : (i ≡ j) × (k i ++ xs ≡ k j ++ ys) =
-    same_words shape c.number i j (k i ++ xs) (k j ++ ys) batch.fit batch'.fit (count_first shape c i xs is batch) (count_first shape c j ys is batch')
-    (sym (append_assoc (w i) (k i) xs) ∙ e ∙ append_assoc (w j) (k j) ys) in
-    let items : i ≡ j = words.0 in
-    let same : k i ++ xs ≡ k i ++ ys = words.1 ∙ ap (λ (l : List ℕ). k l ++ ys) (sym items) in
-    (items, append_cancel_left (k i) xs ys same)
+same_items_phrase shape c is i j xs ys batch batch' e = grind (arith, same_words, count_first, append_assoc, append_cancel_left)
 
 -- ---- calls that begin alike
 
 -- a take from its scan on
 scans_first : (shape : Shape) (k : Count) (x : Take) → (c : ℕ) × (rest : List Made) × (take_phrase shape k x ≡ scan c ++ rest)
 scans_first shape k (Item seen items) = (seen, items_phrase shape k items, refl)
-scans_first shape k (ItemAfterClose seen again items) =
-    (seen, Read X true ∷ (scan again ++ items_phrase shape k items), append_assoc (scan seen) (Read X true ∷ scan again) (items_phrase shape k items))
+scans_first shape k (ItemAfterClose seen again items) = grind (arith, scan again, scan seen, append_assoc (scan seen) (Read X true ∷ scan again) (items_phrase shape k items))
 scans_first shape k (Empty seen) = (seen, Read X false ∷ [], refl)
 
 -- a take has an access
@@ -162,14 +144,12 @@ same_take shape k is (Item c i) (ItemAfterClose d d' j) xs ys (sees, fits) (none
     absurd (item_or_none shape k.number c d _ _ _ fits.some sees none (sym (item_on shape k c i xs) ∙ e ∙ after_on shape k d d' j ys))
 same_take shape k is (Item c i) (Empty d) xs ys (sees, fits) none e =
     absurd (item_or_none shape k.number c d _ _ _ fits.some sees none (sym (item_on shape k c i xs) ∙ e ∙ empty_on shape k d ys))
-same_take shape k is (ItemAfterClose c c' i) (Empty d) xs ys p q e =
-    absurd (open_or_closed d c _ _ (sym (empty_on shape k d ys) ∙ sym e ∙ after_on shape k c c' i xs))
+same_take shape k is (ItemAfterClose c c' i) (Empty d) xs ys p q e = grind (arith, open_or_closed, empty_on shape k d ys, after_on shape k c c' i xs)
 same_take shape k is (ItemAfterClose c c' i) (Item d j) xs ys (none, sees', fits') (sees, fits) e =
     absurd (item_or_none shape k.number d c _ _ _ fits.some sees none (sym (item_on shape k d j ys) ∙ sym e ∙ after_on shape k c c' i xs))
 same_take shape k is (Empty c) (Item d j) xs ys none (sees, fits) e =
     absurd (item_or_none shape k.number d c _ _ _ fits.some sees none (sym (item_on shape k d j ys) ∙ sym e ∙ empty_on shape k c xs))
-same_take shape k is (Empty c) (ItemAfterClose d d' j) xs ys p q e =
-    absurd (open_or_closed c d _ _ (sym (empty_on shape k c xs) ∙ e ∙ after_on shape k d d' j ys))
+same_take shape k is (Empty c) (ItemAfterClose d d' j) xs ys p q e = grind (arith, open_or_closed, empty_on shape k c xs, after_on shape k d d' j ys)
 
 -- takes whose accesses begin with those of a take begin with that take
 same_first :

@@ -59,5 +59,4 @@ whole-takes shape h calls are is = grind (arith, length-events, length-append, t
 -- ---- puts
 
 pub whole-puts : WholePutsCount
-whole-puts shape h calls are is =
-    grind (arith, all_proper, batch_below, first_is_count, puts_pass, put_total, length-events, length-append, puts_items, all_begun, all_is)
+whole-puts shape h calls are is = search (arith, all_proper, batch_below, first_is_count, puts_pass, put_total, length-events, length-append, puts_items, all_begun, all_is)

@@ -38,8 +38,7 @@ put_told_is :
     (shape : Shape) (offers : ℕ → List ℕ) (j : ℕ) (c : Count) (puts : List Put) (closes : Bool) (i : ℕ) →
     put_told shape offers j c puts closes i ≡ told (put_events shape) (stored_after shape) (put_begin offers) put_answer (put_last closes) j c puts i
 put_told_is shape offers j c [] closes i = grind arith
-put_told_is shape offers j c (x ∷ puts) closes i =
-    grind (arith, put_told_is shape offers (suc j) (stored_after shape c x) puts closes (i - (put_events shape c x)))
+put_told_is shape offers j c (x ∷ puts) closes i = search (arith, put_told_is shape offers (suc j) (stored_after shape c x) puts closes (i - (put_events shape c x)))
 
 -- what an event records of the puts, for any calls
 abbrev PutsTell : Shape → (ℕ → List ℕ) → Puts → ℕ → List Put → List Put → List Event → Type 0
@@ -64,11 +63,7 @@ in_puts shape offers calls i before after told l h1 = grind (arith, put_program_
 
 pub puts-tell : PutsTellByOne
 puts-tell shape offers calls i l =
-    subst (PutTells shape offers calls i (puts_over shape first_count calls.puts i) (puts_over shape first_count calls.puts (suc i)))
-    (sym (put_told_is shape offers 0 first_count calls.puts calls.closes i))
-    (in_puts shape offers calls i _ _ _ l
-    (tells_so (put_events shape) (stored_after shape) (put_begin offers) put_answer (put_last calls.closes) (events_of_puts shape) (put_long shape) 0 first_count calls.puts i
-    (puts_total shape first_count)))
+    search (arith, put_told_is shape offers 0 first_count calls.puts calls.closes i, in_puts, tells_so (put_events shape) (stored_after shape) (put_begin offers) put_answer (put_last calls.closes) (events_of_puts shape) (put_long shape) 0 first_count calls.puts i (puts_total shape first_count), put_long shape, puts_total shape first_count)
 
 -- ---- takes
 
@@ -110,8 +105,7 @@ end_tells :
     (shape : Shape) (wants : ℕ → ℕ) (calls : Takes) (i : ℕ) (before after : List Take) (told : List Event) (end : End) → calls.end ≡ end →
     i < events_in (take_program shape calls) → after ≡ before → events_of_takes shape before ≤ i → events_of_takes shape before ≡ events_of_takes shape calls.takes →
     told ≡ take_last wants (length before) end (i - events_of_takes shape before) → TakeTells shape wants calls i before after told
-end_tells shape wants calls i before after told end e l same past whole is =
-    grind (arith, take_program_is, place, end_long, first_told, between_told, last_told)
+end_tells shape wants calls i before after told end e l same past whole is = search (arith, take_program_is, place, end_long, first_told, between_told, last_told)
 
 -- the same in terms of the takes
 in_takes :
@@ -121,8 +115,4 @@ in_takes shape wants calls i before after told l h1 = grind (arith, take_program
 
 pub takes-tell : TakesTellByOne
 takes-tell shape wants calls i l =
-    subst (TakeTells shape wants calls i (takes_over shape first_count calls.takes i) (takes_over shape first_count calls.takes (suc i)))
-    (sym (take_told_is shape wants 0 first_count calls.takes calls.end i))
-    (in_takes shape wants calls i _ _ _ l
-    (tells_so (take_events shape) (count_after shape) (take_begin wants) take_answer (take_last wants (0 + length calls.takes) calls.end) (events_of_takes shape) (take_long shape) 0
-    first_count calls.takes i (takes_total shape first_count)))
+    search (arith, take_told_is shape wants 0 first_count calls.takes calls.end i, in_takes, tells_so (take_events shape) (count_after shape) (take_begin wants) take_answer (take_last wants (0 + length calls.takes) calls.end) (events_of_takes shape) (take_long shape) 0 first_count calls.takes i (takes_total shape first_count), length calls.takes, take_long shape, takes_total shape first_count)

@@ -101,8 +101,7 @@ put_spans_past : (shape : Shape) (puts : Puts) (c : Count) (start : ℕ) (stored
     SpansBehind (batch_of shape) (put_spans shape puts) start stored (spans P shape c (put_looks (x ∷ rest))) →
     SpansBehind (batch_of shape) (put_spans shape puts) (start + put_long shape c x) (stored ++ put_items x) (spans P shape (stored_after shape c x) (put_looks rest))
 put_spans_past shape puts c start stored (Stored seen items) rest b =
-    spans_past (batch_of shape) (put_spans shape puts) start (start + put_long shape c (Stored seen items)) stored (span_of P shape c (look seen (Passes items))) _
-    (omega (arith, long_is shape c seen items)) b
+    search (arith, spans_past, put_spans shape puts, put_long shape c (Stored seen items), span_of P shape c (look seen (Passes items)), look seen (Passes items), long_is shape c seen items)
 put_spans_past shape puts c start stored (Full seen) rest b =
     spans_past (batch_of shape) (put_spans shape puts) start (start + put_long shape c (Full seen)) stored (span_of P shape c (look seen Stops)) _ (omega arith) b
 
@@ -158,8 +157,7 @@ take_spans_past : (shape : Shape) (takes : Takes) (c : Count) (start : ℕ) (tak
     SpansBehind (take_batch_of shape) (take_spans shape takes) start taken (spans C shape c (take_looks (x ∷ rest) takes.end)) →
     SpansBehind (take_batch_of shape) (take_spans shape takes) (start + take_long shape c x) (taken ++ taken_of x) (spans C shape (count_after shape c x) (take_looks rest takes.end))
 take_spans_past shape takes c start taken (Item seen items) rest b =
-    spans_past (take_batch_of shape) (take_spans shape takes) start (start + take_long shape c (Item seen items)) taken (span_of C shape c (look seen (Passes items))) _
-    (omega (arith, take_phrase-item shape c seen items)) b
+    search (arith, spans_past, take_spans shape takes, take_long shape c (Item seen items), span_of C shape c (look seen (Passes items)), look seen (Passes items), take_phrase-item shape c seen items)
 take_spans_past shape takes c start taken (ItemAfterClose seen again items) rest b =
     let most : ℕ = take_batch_of shape in
     let next : Count = count_after shape c (ItemAfterClose seen again items) in
@@ -170,8 +168,7 @@ take_spans_past shape takes c start taken (ItemAfterClose seen again items) rest
     (omega (arith, take_phrase-after shape c seen again items)) one in
     grind (arith, take_long, take_looks, append-nil)
 take_spans_past shape takes c start taken (Empty seen) rest b =
-    spans_past (take_batch_of shape) (take_spans shape takes) start (start + take_long shape c (Empty seen)) taken (span_of C shape c (look seen (Asks false))) _
-    (omega (arith, take_phrase-empty shape c seen)) b
+    search (arith, spans_past, take_spans shape takes, take_long shape c (Empty seen), span_of C shape c (look seen (Asks false)), look seen (Asks false), take_phrase-empty shape c seen)
 
 taken_past : (k : ℕ) (taken : List ℕ) (x : Take) → k ≡ length taken → taken_after k x ≡ length (taken ++ taken_of x)
 taken_past k taken x e = grind (arith, past_is, length-append, append-nil)

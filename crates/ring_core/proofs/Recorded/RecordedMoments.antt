@@ -65,8 +65,7 @@ next_q h t p q e rest by m = omega (arith, at_q h (suc t) p (suc q) rest (past_q
 
 -- and is there
 place_here : (s : Side) (h : List Event) (t i : ℕ) → clock s h t ≡ i → clock s h (suc t) ≡ suc i → IsPlaceOf s h i t
-place_here s h t i here past =
-    subst (IsPlaceOf s h i) (sym (one_place s h i t (here, past))) (subhistory_has_place s h i (omega (arith, past, clock_within s h (suc t))))
+place_here s h t i here past = grind (arith, one_place s h i t (here, past), subhistory_has_place s h i (omega (arith, past, clock_within s h (suc t))), clock_within s h (suc t))
 
 pub place_p : (h : List Event) (t p q : ℕ) (e : Event) (rest : List Event) → e.side ≡ P → Moment h t p q (e ∷ rest) → IsPlaceOf P h p t
 place_p h t p q e rest by m = place_here P h t p (at_p h t p q (e ∷ rest) m) (at_p h (suc t) (suc p) q rest (past_p h t p q e rest by m))
@@ -80,16 +79,10 @@ few_own s subhistory all (more, e) = omega (arith, ap length e, length-append su
 
 pub few_puts : (shape : Shape) (h : List Event) (puts : Puts) → FollowsPuts shape h puts → length (subhistory P h) ≤ before_close shape puts + events_in (close_phrase puts.closes)
 few_puts shape h puts follows =
-    omega (
-      arith,
-      few_own P (subhistory P h) (events_of P (put_program shape puts)) follows.events,
-      length-events P (put_program shape puts),
-      length-append (put_phrases shape first_count puts.puts) (close_phrase puts.closes),
-    )
+    grind (arith, few_own P (subhistory P h) (events_of P (put_program shape puts)) follows.events, length-events P (put_program shape puts), length-append (put_phrases shape first_count puts.puts) (close_phrase puts.closes))
 
 pub few_takes : (shape : Shape) (h : List Event) (takes : Takes) → FollowsTakes shape h takes → length (subhistory C h) ≤ events_in (take_program shape takes)
-few_takes shape h takes follows =
-    omega (arith, few_own C (subhistory C h) (events_of C (take_program shape takes)) follows.events, length-events C (take_program shape takes))
+few_takes shape h takes follows = grind (arith, few_own C (subhistory C h) (events_of C (take_program shape takes)) follows.events, length-events C (take_program shape takes))
 
 -- ---- the law at a moment
 

@@ -257,17 +257,8 @@ module _ (shape : Shape) (offers : ℕ → List ℕ) (wants : ℕ → ℕ) (h : 
       PutsBehind shape offers puts c start stored (x ∷ more) → k.put ≡ Offers (length left) before → 0 < length left → length (put_items x) ≤ length left →
       (length (put_items x) < length left → capacity_of shape ≤ before + length (put_items x)) → PutLeft t p q rest k stored left (put_items x) →
       Stepped shape offers wants h puts takes t p q rest k (put_answer x ∷ [])
-  put_told_end t p q rest k stored left c start before (Stored seen items) more b offered some few lacks r = record {
-    after = kept (without (length left - length items) k.inside) Free k.take k.shut;
-    moves = inl (length left, before, offered, refl, (b.are.0.2.some, few), may_lack_more (exactly (capacity_of shape)) before (length items) (length left) true (λ says l. omega (arith, lacks l)), r.ends);
-    now = r.now;
-  }
-  put_told_end t p q rest k stored left c start before (Full seen) more b offered some few lacks r =
-      record {
-        after = kept (without (length left - 0) k.inside) Free k.take k.shut;
-        moves = inl (length left, before, offered, refl, tt, inr (omega (arith, lacks some)), r.ends);
-        now = r.now;
-      }
+  put_told_end t p q rest k stored left c start before (Stored seen items) more b offered some few lacks r = grind (arith, length, take, may_lack_more, lacks)
+  put_told_end t p q rest k stored left c start before (Full seen) more b offered some few lacks r = grind (arith, length, take, lacks)
 
   put_ends :
       (t p q : ℕ) (e : Event) (rest : List Event) (k : Kept) → e.side ≡ P → (now : Here t p q (e ∷ rest) k) →

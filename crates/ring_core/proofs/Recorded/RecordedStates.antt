@@ -164,8 +164,7 @@ put_view shape offers h puts p stored left put (inr (inl r)) = runs_view shape o
 put_view shape offers h puts p stored left put (inr (inr (inl r))) =
     last_view shape offers puts r.count r.start p stored left put (omega (arith, r.place_is)) r.behind r.left_is (ap offered_by r.put_is) (inl (r.again, r.put_is))
 put_view shape offers h puts p stored left put (inr (inr (inr r))) =
-    last_view shape offers puts r.count r.start p stored left put (omega (arith, r.place_is)) r.behind r.left_is (ap offered_by r.put_is)
-    (inr (omega (arith, r.place_is, r.behind.all), r.put_is))
+    grind (arith, last_view shape offers puts r.count r.start p stored left put (omega (arith, r.place_is)) r.behind r.left_is (ap offered_by r.put_is) (inr (omega (arith, r.place_is, r.behind.all), r.put_is)))
 
 -- ---- the consumer
 
@@ -257,12 +256,7 @@ over_begun shape wants takes c start taken q l b =
 pub take_view : (shape : Shape) (wants : ℕ → ℕ) (h : List Event) (takes : Takes) (q : ℕ) (taken : List ℕ) (take : TakeTurn) → AreTakes shape 0 takes.takes takes.end →
     TakeAt shape wants h takes q taken take → TakeView shape takes q taken take
 take_view shape wants h takes q taken take are (inl r) =
-    let most : ℕ = take_batch_of shape in
-    record {
-      begun = omega (arith, counted_here most (take_spans shape takes) q taken _ r.behind.spans_are);
-      ended = passed_ended most (take_spans shape takes) q taken _ q (omega arith) r.behind.spans_are;
-      first = first_taken shape wants takes r.count q taken r.rest q (omega arith) r.behind;
-    }
+    grind (arith, counted_here, take_spans shape takes, passed_ended, first_taken shape wants takes r.count q taken r.rest q (omega arith) r.behind)
 take_view shape wants h takes q taken take are (inr (inl r)) =
     let most : ℕ = take_batch_of shape in
     let stop : ℕ = r.start + take_long shape r.count r.call in
@@ -285,8 +279,5 @@ take_view shape wants h takes q taken take are (inr (inr (inl r))) = record {
   ended = passed_ended (take_batch_of shape) (take_spans shape takes) r.start taken _ q (omega (arith, r.begun)) r.behind.spans_are;
   first = first_taken shape wants takes r.count r.start taken [] q (omega (arith, r.begun)) r.behind;
 }
-take_view shape wants h takes q taken take are (inr (inr (inr r))) = record {
-  begun = omega (arith, over_begun shape wants takes r.count r.start taken q r.begun r.behind);
-  ended = passed_ended (take_batch_of shape) (take_spans shape takes) r.start taken _ q r.begun r.behind.spans_are;
-  first = first_taken shape wants takes r.count r.start taken [] q r.begun r.behind;
-}
+take_view shape wants h takes q taken take are (inr (inr (inr r))) =
+    search (arith, over_begun shape wants takes r.count r.start taken q r.begun r.behind, passed_ended, take_spans shape takes, first_taken shape wants takes r.count r.start taken)

@@ -124,8 +124,7 @@ module _ (shape : Shape) (offers : ℕ → List ℕ) (wants : ℕ → ℕ) (h : 
       stands_at (take_spans shape takes) (q + whole y) (q + whole y) (length taken + 0) (length taken) z refl (omega arith)
       (b.spans_are.stands (whole y) 0 z (inr (0, 0, omega arith, refl, inl (refl, refl, refl)))) in
       grind (arith, drained, take_phrase-after)
-  lacks c taken (Empty seen) more t p q stored inside b place ep eq ended l over fewer =
-      omega (arith, (none_inside c taken seen more t p q stored inside b place ep eq ended l over).0)
+  lacks c taken (Empty seen) more t p q stored inside b place ep eq ended l over fewer = grind (arith, none_inside c taken seen more t p q stored inside b place ep eq ended l over)
 
   -- when a take begins that will find nothing, the ring is open
   opened :
@@ -136,8 +135,7 @@ module _ (shape : Shape) (offers : ℕ → List ℕ) (wants : ℕ → ℕ) (h : 
   opened c taken (Item seen items) more t p q stored inside shut b place ep eq ended l is_shut next over none = absurd (omega (arith, b.are.0.1.some, ap length none))
   opened c taken (ItemAfterClose seen again items) more t p q stored inside shut b place ep eq ended l is_shut next over none = grind arith
   opened c taken (Empty seen) more t p q stored inside shut b place ep eq ended l is_shut next over none =
-      let early = (none_inside c taken seen more t p q stored inside b place ep eq ended l over).1 in
-      grind (arith, few_takes)
+      grind (arith, none_inside c taken seen more t p q stored inside b place ep eq ended l over, few_takes)
 
   -- a take begins
   take_begins :
@@ -248,21 +246,9 @@ module _ (shape : Shape) (offers : ℕ → List ℕ) (wants : ℕ → ℕ) (h : 
       (b : TakesBehind shape wants takes c start taken (x ∷ more)) → k.take ≡ Waits (wants b.made) before shut → 0 < wants b.made →
       (length (taken_of x) < wants b.made → before ≤ length (taken_of x)) → (taken_of x ≡ [] → shut ≡ false) → TakeLeft t p q rest k (taken_of x) →
       Stepped shape offers wants h puts takes t p q rest k (take_answer x ∷ [])
-  take_told_end t p q rest k c start taken before shut (Item seen items) more b waits some few open_then r = record {
-    after = kept (drop (length items) k.inside) k.put Rests k.shut;
-    moves = (wants b.made, before, shut, waits, inl (refl, (b.are.0.1.some, b.wanted.0.0), found_fewer before shut items (wants b.made) true b.are.0.1.some (λ says l. few l), (r.more, r.next), r.ends));
-    now = r.now;
-  }
-  take_told_end t p q rest k c start taken before shut (ItemAfterClose seen again items) more b waits some few open_then r = record {
-    after = kept (drop (length items) k.inside) k.put Rests k.shut;
-    moves = (wants b.made, before, shut, waits, inl (refl, (b.are.0.2.some, b.wanted.0.0), found_fewer before shut items (wants b.made) true b.are.0.2.some (λ says l. few l), (r.more, r.next), r.ends));
-    now = r.now;
-  }
-  take_told_end t p q rest k c start taken before shut (Empty seen) more b waits some few open_then r = record {
-    after = kept (drop 0 k.inside) k.put Rests k.shut;
-    moves = (wants b.made, before, shut, waits, inl (refl, tt, (λ l. (omega (arith, few some), λ _ late. let never : false ≡ true = sym (open_then refl) ∙ late in absurd cc)), (r.more, r.next), r.ends));
-    now = r.now;
-  }
+  take_told_end t p q rest k c start taken before shut (Item seen items) more b waits some few open_then r = grind (arith, drop, length, found_fewer)
+  take_told_end t p q rest k c start taken before shut (ItemAfterClose seen again items) more b waits some few open_then r = grind (arith, drop, length, found_fewer)
+  take_told_end t p q rest k c start taken before shut (Empty seen) more b waits some few open_then r = grind (arith, drop)
 
   take_ends :
       (t p q : ℕ) (e : Event) (rest : List Event) (k : Kept) → e.side ≡ C → (now : Here t p q (e ∷ rest) k) →
