@@ -37,6 +37,14 @@ in_append x (z ∷ xs) ys (inr i) = elim (in_append x xs ys i) [ inl j ↦ inl (
 pub in_if : {A : Type 0} (x : A) (t : Bool) (xs : List A) → In x (if t then xs else []) → (t ≡ true) × In x xs
 in_if x t xs i = grind arith
 
+-- operations of a call whose test has come out, and those of the calls after it
+pub in_call : (x : Op) (t : Bool) (xs ys : List Op) → In x ((if t then xs else []) ++ ys) → ((t ≡ true) × In x xs) ⊎ In x ys
+in_call x true xs ys i = grind (arith, in_append)
+in_call x false xs ys i = inr i
+
+pub sorted_call : (t : Bool) (xs ys : List Op) → Sorted (xs ++ ys) → Sorted ys → Sorted ((if t then xs else []) ++ ys)
+sorted_call t xs ys both rest = grind arith
+
 -- ---- counts that have begun, by the first span
 
 pub begun_past_count : (y : Span) (ys : List Span) (i : ℕ) → before_count y < i → counts_begun (y ∷ ys) i ≡ counts y.outcome + counts_begun ys (i - whole y)
@@ -189,24 +197,22 @@ put_turns-from shape c start [] closes t x i = grind (arith, in_if, from_here)
 put_turns-from shape c start (Stored seen items ∷ puts) closes t x i =
     let stop : ℕ = start + put_long shape c (Stored seen items) in
     let next : Count = stored_after shape c (Stored seen items) in
-    let b = before_put_ends shape c seen items in
-    elim (in_append x (if nat_lt (start + until_count shape c seen items) t then enqueue_turns c.number start stop items else []) (put_turns shape next stop puts closes t) i) [
-      | inl j ↦ from_move 0 c.number start stop items x (omega (arith, b)) (move_of 0 c.number start stop items x (in_if x _ (enqueue_turns c.number start stop items) j).1)
+    elim (in_call x (nat_lt (start + until_count shape c seen items) t) (enqueue_turns c.number start stop items) (put_turns shape next stop puts closes t) i) [
+      | inl (holds, j) ↦ from_move 0 c.number start stop items x (omega (arith, before_put_ends shape c seen items)) (move_of 0 c.number start stop items x j)
       | inr j ↦ from_later start stop c.number next.number x (omega arith) (omega (arith, past_is c.number items)) (put_turns-from shape next stop puts closes t x j)
     ]
 put_turns-from shape c start (Full seen ∷ puts) closes t x i =
     let stop : ℕ = start + put_long shape c (Full seen) in
-    elim (in_append x (if nat_le stop t then put_turn c.number Misses start stop ∷ [] else []) (put_turns shape c stop puts closes t) i) [
-      | inl j ↦ (
-          elim (in_if x (nat_le stop t) (put_turn c.number Misses start stop ∷ []) j).1 [
-            | inl e ↦ from_here 0 c.number start stop Misses x (omega (arith, put_some shape c seen)) e
-            | inr k ↦ absurd k
-          ])
+    elim (in_call x (nat_le stop t) (put_turn c.number Misses start stop ∷ []) (put_turns shape c stop puts closes t) i) [
+      | inl (over, j) ↦ grind (arith, from_here, put_some shape c seen)
       | inr j ↦ from_later start stop c.number c.number x (omega arith) (omega arith) (put_turns-from shape c stop puts closes t x j)
     ]
 
 before_later : (place n start stop item : ℕ) (x : Op) → IsFrom stop (suc n) x → start ≤ stop → GoesTo (turn place n (Moves item) start stop) x
 before_later place n start stop item x r l = grind arith
+
+before_move : (place n start stop item : ℕ) (items : List ℕ) (x : Op) → In x (moves place (suc n) start stop items) → GoesTo (turn place n (Moves item) start stop) x
+before_move place n start stop item items x i = grind (arith, move_so place (suc n) start stop items x (move_of place (suc n) start stop items x i), move_not_miss)
 
 -- they precede each other, and what comes after them
 pub moves_sorted :
@@ -216,17 +222,8 @@ moves_sorted place n start stop [] xs l from s = s
 moves_sorted place n start stop (item ∷ items) xs l from s = (
   (λ x i. (
     (elim (in_append x (moves place (suc n) start stop items) xs i) [
-      | inl j ↦ (
-          let m = move_of place (suc n) start stop items x j in
-          let r = move_so place (suc n) start stop items x m in
-          record {
-            start = omega (arith, r.starts);
-            stop = omega (arith, r.stops);
-            number = omega (arith, r.number);
-            miss = λ a b. absurd (move_not_miss x.kind r.enqueues b);
-            ends = λ a. absurd a;
-          })
-      | inr j ↦ before_later place n start stop item x (from_later stop stop (suc n) (number_past (suc n) items) x (omega arith) (omega (arith, past_is (suc n) items)) (from x j)) l
+      | inl j ↦ before_move place n start stop item items x j
+      | inr j ↦ grind (arith, before_later, past_is (suc n) items, from x j)
     ]),
     λ a. absurd a,
   )),
@@ -240,22 +237,14 @@ put_turns-sorted shape c start (Stored seen items ∷ puts) closes t =
     let stop : ℕ = start + put_long shape c (Stored seen items) in
     let next : Count = stored_after shape c (Stored seen items) in
     let rest : List Op = put_turns shape next stop puts closes t in
-    let test : Bool = nat_lt (start + until_count shape c seen items) t in
-    by_case test
-    (λ e. subst (λ l. Sorted (l ++ rest)) (sym (if_yes test (enqueue_turns c.number start stop items) e))
-    (moves_sorted 0 c.number start stop items rest (omega arith) (put_turns-from shape next stop puts closes t) (put_turns-sorted shape next stop puts closes t)))
-    (λ e. subst (λ l. Sorted (l ++ rest)) (sym (if_no test (enqueue_turns c.number start stop items) e)) (put_turns-sorted shape next stop puts closes t))
+    sorted_call (nat_lt (start + until_count shape c seen items) t) (enqueue_turns c.number start stop items) rest
+    (moves_sorted 0 c.number start stop items rest (omega arith) (put_turns-from shape next stop puts closes t) (put_turns-sorted shape next stop puts closes t))
+    (put_turns-sorted shape next stop puts closes t)
 put_turns-sorted shape c start (Full seen ∷ puts) closes t =
     let stop : ℕ = start + put_long shape c (Full seen) in
     let rest : List Op = put_turns shape c stop puts closes t in
-    let test : Bool = nat_le stop t in
-    by_case test
-    (λ e. subst (λ l. Sorted (l ++ rest)) (sym (if_yes test (put_turn c.number Misses start stop ∷ []) e)) (
-      (λ x i. (let r = put_turns-from shape c stop puts closes t x i in
-          (record { start = omega (arith, r.starts); stop = omega (arith, r.starts, r.some); number = r.behind; miss = λ a b. absurd a; ends = λ a. absurd a }, λ a. absurd a))),
-      put_turns-sorted shape c stop puts closes t,
-    ))
-    (λ e. subst (λ l. Sorted (l ++ rest)) (sym (if_no test (put_turn c.number Misses start stop ∷ []) e)) (put_turns-sorted shape c stop puts closes t))
+    sorted_call (nat_le stop t) (put_turn c.number Misses start stop ∷ []) rest ((λ x i. grind (arith, put_turns-from shape c stop puts closes t x i)), put_turns-sorted shape c stop puts closes t)
+    (put_turns-sorted shape c stop puts closes t)
 
 -- ---- their numbers
 

@@ -25,7 +25,7 @@ use Rattle.ring_core.proofs.OverSpans.CallSpans.{take_phrase-item, take_phrase-a
 use Rattle.ring_core.proofs.CallCounts.{phrase_some}
 use Rattle.ring_core.proofs.Linear.Turns.{In, Kind, Moves, Misses, Ends, Op, take_op}
 use Rattle.ring_core.proofs.Linear.OneOrder.{take_ops, Sorted, Numbered, next_number, with_item, items_by}
-use Rattle.ring_core.proofs.Linear.PutTurns.{turn, moves, if_yes, if_no, in_append, in_if, no_turns, IsFrom, from_here, from_move, move_of, moves_sorted, moves_numbered}
+use Rattle.ring_core.proofs.Linear.PutTurns.{turn, moves, if_yes, if_no, in_append, in_if, in_call, sorted_call, no_turns, IsFrom, from_here, from_move, move_of, moves_sorted, moves_numbered}
 
 abbrev pub take_turn : List Event → ℕ → Kind → ℕ → ℕ → Op
 take_turn h k kind start stop = turn (place_of C h start) k kind start stop
@@ -120,10 +120,8 @@ take_turns-from h shape c start [] (Closed seen again) t y i = grind (arith, in_
 take_turns-from h shape c start (x ∷ takes) end t y i =
     let stop : ℕ = start + take_long shape c x in
     let next : Count = count_after shape c x in
-    let some = phrase_some shape c x in
-    let test : Bool = nat_le (start + take_effect shape c x) t in
-    elim (in_append y (if test then turns_of h c.number x start stop else []) (take_turns h shape next stop takes end t) i) [
-      | inl j ↦ from_turn h c.number x start stop y (omega (arith, some)) (in_if y test (turns_of h c.number x start stop) j).1
+    elim (in_call y (nat_le (start + take_effect shape c x) t) (turns_of h c.number x start stop) (take_turns h shape next stop takes end t) i) [
+      | inl (over, j) ↦ from_turn h c.number x start stop y (omega (arith, phrase_some shape c x)) j
       | inr j ↦ grind (arith, taken_on, take_turns-from h shape next stop takes end t y j)
     ]
 
@@ -138,14 +136,10 @@ take_turns-sorted h shape c start [] end t = grind (arith, if_yes, if_no)
 take_turns-sorted h shape c start (x ∷ takes) end t =
     let stop : ℕ = start + take_long shape c x in
     let next : Count = count_after shape c x in
-    let these : List Op = turns_of h c.number x start stop in
     let rest : List Op = take_turns h shape next stop takes end t in
-    let test : Bool = nat_le (start + take_effect shape c x) t in
     let sorted = take_turns-sorted h shape next stop takes end t in
-    by_case test
-    (λ e. subst (λ l. Sorted (l ++ rest)) (sym (if_yes test these e))
-    (turn_sorted h c.number x start stop rest (omega arith) (take_turns-from h shape next stop takes end t) sorted))
-    (λ e. subst (λ l. Sorted (l ++ rest)) (sym (if_no test these e)) sorted)
+    sorted_call (nat_le (start + take_effect shape c x) t) (turns_of h c.number x start stop) rest
+    (turn_sorted h c.number x start stop rest (omega arith) (take_turns-from h shape next stop takes end t) sorted) sorted
 
 -- ---- their numbers
 
