@@ -23,7 +23,7 @@ use Rattle.ring_core.proofs.CallCounts.{ended_counts, lt-behind}
 use Rattle.ring_core.proofs.OwnEvents.{clock_rises}
 use Rattle.ring_core.proofs.Linear.Turns.{In, Misses, Ends, IsMove, Op, PutFact, move_not_miss, move_not_end}
 use Rattle.ring_core.proofs.Linear.OneOrder.{Numbered, items_by, IsClosedBy}
-use Rattle.ring_core.proofs.Linear.PutTurns.{if_yes, if_no, in_append, in_if, begun_past_count, begun_before_count, begun_of_none, begun_counts, put_turn, enqueue_turns, put_long, until_count, put_turns, put_turns-none, put_some, before_put_ends, move_of, move_so, moves_numbered}
+use Rattle.ring_core.proofs.Linear.PutTurns.{if_yes, if_no, in_append, in_if, in_call, in_one, begun_past_count, begun_before_count, begun_of_none, begun_counts, put_turn, enqueue_turns, put_long, until_count, put_turns, put_turns-none, put_some, before_put_ends, move_of, move_so, moves_numbered}
 use Rattle.bits_core.proofs.LawLemmas.{subhistory_has_place}
 use Rattle.bits_core.proofs.OwnEvents.{by_case}
 
@@ -43,6 +43,11 @@ until_is shape c seen items = omega (arith, length-append (scan_phrase (row_read
 
 -- ---- their numbers
 
+numbered_call :
+    (test : Bool) (last n : ℕ) (xs ys : List Op) → (test ≡ true → Numbered last n (xs ++ ys)) → (test ≡ false → Numbered last n ys) →
+    Numbered last n ((if test then xs else []) ++ ys)
+numbered_call test last n xs ys if_true if_false = grind arith
+
 pub put_turns-numbered :
     (shape : Shape) (c : Count) (start : ℕ) (puts : List Put) (closes : Bool) (t last : ℕ) →
     c.number + counts_begun (spans P shape c (put_looks puts)) (t - start) ≡ last → Numbered last c.number (put_turns shape c start puts closes t)
@@ -51,24 +56,13 @@ put_turns-numbered shape c start (Stored seen items ∷ puts) closes t last e =
     let stop : ℕ = start + put_long shape c (Stored seen items) in
     let next : Count = stored_after shape c (Stored seen items) in
     let rest : List Op = put_turns shape next stop puts closes t in
-    let test : Bool = nat_lt (start + until_count shape c seen items) t in
     let y : Span = span_of P shape c (look seen (Passes items)) in
     let ys : List Span = spans P shape next (put_looks puts) in
     let long = long_is shape c seen items in
     let front = until_is shape c seen items in
-    by_case test
-    (λ f.
-    (let past_count = begun_past_count y ys (t - start) (omega (arith, ltb-true (start + until_count shape c seen items) t f, front)) in
-    let later : t - start - whole y ≡ t - stop = omega (arith, long) in
-    let e' : next.number + counts_begun ys (t - stop) ≡ last = omega (arith, e, past_count, past_is c.number items, ap (counts_begun ys) later) in
-    subst (λ l. Numbered last c.number (l ++ rest)) (sym (if_yes test (enqueue_turns c.number start stop items) f))
-    (moves_numbered 0 last c.number start stop items rest (put_turns-numbered shape next stop puts closes t last e'))))
-    (λ f.
-    (let early = ltb-false (start + until_count shape c seen items) t f in
-    let none : rest ≡ [] = put_turns-none shape next stop puts closes t (omega (arith, early, before_put_ends shape c seen items)) in
-    let e' : c.number ≡ last = omega (arith, e, begun_before_count y ys (t - start) (omega (arith, early, front))) in
-    subst (λ l. Numbered last c.number (l ++ rest)) (sym (if_no test (enqueue_turns c.number start stop items) f))
-    (subst (Numbered last c.number) (sym none) e')))
+    numbered_call (nat_lt (start + until_count shape c seen items) t) last c.number (enqueue_turns c.number start stop items) rest
+    (λ f. moves_numbered 0 last c.number start stop items rest (put_turns-numbered shape next stop puts closes t last (grind (arith, ltb-true, begun_past_count y ys (t - start), past_is c.number items))))
+    (λ f. grind (arith, ltb-false, put_turns-none shape next stop puts closes t, before_put_ends shape c seen items, begun_before_count y ys (t - start)))
 put_turns-numbered shape c start (Full seen ∷ puts) closes t last e =
     let stop : ℕ = start + put_long shape c (Full seen) in
     let y : Span = span_of P shape c (look seen Stops) in
@@ -119,6 +113,23 @@ put_turns-closed shape c start (Full seen ∷ puts) t l =
     let stop : ℕ = start + put_long shape c (Full seen) in
     grind (arith, length-append, if_yes, if_no, put_turns-closed shape c stop puts t (omega (arith, l, length-append (put_phrase shape c (Full seen)) (put_phrases shape c puts))))
 
+-- ---- spans among others
+
+-- these spans are among all of them, after this many events and items
+abbrev pub Stand : List Span → List Span → (start k : ℕ) → Type 0
+Stand all xs start k = (s n : ℕ) (x : Span) → IsSpanAt xs s n x → IsSpanAt all (start + s) (k + n) x
+
+pub stand_on : (all : List Span) (y : Span) (ys : List Span) (start stop k k' : ℕ) → stop ≡ start + whole y → k' ≡ k + counts y.outcome → Stand all (y ∷ ys) start k → Stand all ys stop k'
+stand_on all y ys start stop k k' e f stand s n x st =
+    stands_at all (start + (whole y + s)) (stop + s) (k + (counts y.outcome + n)) (k' + n) x (omega (arith, e)) (omega (arith, f)) (stand (whole y + s) (counts y.outcome + n) x (inr (s, n, refl, refl, st)))
+
+pub stand_first : (all : List Span) (y : Span) (ys : List Span) (start k : ℕ) → Stand all (y ∷ ys) start k → IsSpanAt all start k y
+stand_first all y ys start k stand = stands_at all (start + 0) start (k + 0) k y (omega arith) (omega arith) (stand 0 0 y (inl (refl, refl, refl)))
+
+-- what has begun before a span that is there
+pub begun_there : (most : ℕ) (all : List Span) → AllProper most all → (start k : ℕ) (y : Span) → IsSpanAt all start k y → (i : ℕ) → i ≤ start → counts_begun all i ≤ k
+begun_there most all proper start k y st i l = omega (arith, begun_at most all proper start k y st 0, begun_up most all proper i (start + 0))
+
 -- ---- what holds for each
 
 module _ (shape : Shape) (h : List Event) (puts : Puts) (takes : Takes) (law : LawOfSpans shape h puts takes)
@@ -132,24 +143,8 @@ module _ (shape : Shape) (h : List Event) (puts : Puts) (takes : Takes) (law : L
       PutFact h (capacity_of shape) all_events (counts_begun (put_spans shape puts)) (counts_ended (put_spans shape puts)) (counts_ended (take_spans shape takes)) x ×
       (IsMove x.kind → x.number < counts_begun (put_spans shape puts) (length (subhistory P h)))
 
-  -- the spans of puts are among those of all puts, after this many events and starting at this count
-  abbrev Stand : Count → ℕ → List Put → Type 0
-  Stand c start rest = (s n : ℕ) (x : Span) → IsSpanAt (spans P shape c (put_looks rest)) s n x → IsSpanAt (put_spans shape puts) (start + s) (c.number + n) x
-
-  stand_on :
-      (c next : Count) (start stop : ℕ) (y : Span) (puts' rest : List Put) → spans P shape c (put_looks puts') ≡ y ∷ spans P shape next (put_looks rest) →
-      stop ≡ start + whole y → next.number ≡ c.number + counts y.outcome → Stand c start puts' → Stand next stop rest
-  stand_on c next start stop y puts' rest e f g stand s n x st =
-      let here : IsSpanAt (spans P shape c (put_looks puts')) (whole y + s) (counts y.outcome + n) x = subst (λ l. IsSpanAt l (whole y + s) (counts y.outcome + n) x) (sym e) (inr (s, n, refl, refl, st)) in
-      grind (arith, stands_at)
-
-  -- what has begun before a span that is there
-  begun_there : (start n : ℕ) (y : Span) → IsSpanAt (put_spans shape puts) start n y → (i : ℕ) → i ≤ start → counts_begun (put_spans shape puts) i ≤ n
-  begun_there start n y st i l =
-      grind (arith, counts_begun (put_spans shape puts) (start + 0), put_spans shape puts, begun_at (batch_of shape) (put_spans shape puts) proper_puts start n y st 0 (omega arith), begun_up (batch_of shape) (put_spans shape puts) proper_puts i (start + 0) (omega (arith, l)))
-
   pub puts_hold :
-      (c : Count) (start : ℕ) (rest : List Put) (closes : Bool) → Stand c start rest → start + events_in (put_phrases shape c rest) ≡ all_events →
+      (c : Count) (start : ℕ) (rest : List Put) (closes : Bool) → Stand (put_spans shape puts) (spans P shape c (put_looks rest)) start c.number → start + events_in (put_phrases shape c rest) ≡ all_events →
       c.number + in_all (spans P shape c (put_looks rest)) ≡ in_all (put_spans shape puts) →
       (x : Op) → In x (put_turns shape c start rest closes (length (subhistory P h))) → IsPut x
   puts_hold c start [] false stand e f x i = absurd i
@@ -158,21 +153,19 @@ module _ (shape : Shape) (h : List Event) (puts : Puts) (takes : Takes) (law : L
       let stop : ℕ = start + put_long shape c (Stored seen items) in
       let next : Count = stored_after shape c (Stored seen items) in
       let t : ℕ = length (subhistory P h) in
-      let test : Bool = nat_lt (start + until_count shape c seen items) t in
       let y : Span = span_of P shape c (look seen (Passes items)) in
       let long = long_is shape c seen items in
       let front = until_is shape c seen items in
-      let st : IsSpanAt (put_spans shape puts) start c.number y =
-      stands_at (put_spans shape puts) (start + 0) start (c.number + 0) c.number y (omega arith) (omega arith) (stand 0 0 y (inl (refl, refl, refl))) in
-      elim (in_append x (if test then enqueue_turns c.number start stop items else []) (put_turns shape next stop rest closes t) i) [
-        | inl j ↦ (
-            let (holds, k) = in_if x test (enqueue_turns c.number start stop items) j in
+      let ys : List Span = spans P shape next (put_looks rest) in
+      let st = stand_first (put_spans shape puts) y ys start c.number stand in
+      elim (in_call x (nat_lt (start + until_count shape c seen items) t) (enqueue_turns c.number start stop items) (put_turns shape next stop rest closes t) i) [
+        | inl (holds, k) ↦ (
             let r = move_so 0 c.number start stop items x (move_of 0 c.number start stop items x k) in
             let begun = begun_counts (put_spans shape puts) start c.number y t st (omega (arith, ltb-true (start + until_count shape c seen items) t holds, front)) in (
               record {
                 some = omega (arith, r.starts, r.stops, before_put_ends shape c seen items);
                 begins = omega (arith, r.starts, e);
-                not_begun = λ m l. omega (arith, begun_there start c.number y st m (omega (arith, l, r.starts)), r.number);
+                not_begun = λ m l. omega (arith, begun_there (batch_of shape) (put_spans shape puts) proper_puts start c.number y st m (omega (arith, l, r.starts)), r.number);
                 ended = λ s m l. omega (arith, ended_counts (put_spans shape puts) start c.number y m st (omega (arith, l, r.stops, long)), r.number, r.inside);
                 full = λ s. absurd (move_not_miss x.kind r.enqueues s);
                 close = λ s. absurd (move_not_end x.kind r.enqueues s);
@@ -180,7 +173,7 @@ module _ (shape : Shape) (h : List Event) (puts : Puts) (takes : Takes) (law : L
               λ s. omega (arith, begun, r.number, r.inside),
             ))
         | inr j ↦ puts_hold next stop rest closes
-            (stand_on c next start stop y (Stored seen items ∷ rest) rest refl (omega (arith, long)) (past_is c.number items) stand)
+            (stand_on (put_spans shape puts) y ys start stop c.number next.number (omega (arith, long)) (past_is c.number items) stand)
             (omega (arith, e, length-append (put_phrase shape c (Stored seen items)) (put_phrases shape next rest)))
             (omega (arith, f, past_is c.number items)) x j
       ]
@@ -189,31 +182,27 @@ module _ (shape : Shape) (h : List Event) (puts : Puts) (takes : Takes) (law : L
       let t : ℕ = length (subhistory P h) in
       let y : Span = span_of P shape c (look seen Stops) in
       let some = put_some shape c seen in
-      let st : IsSpanAt (put_spans shape puts) start c.number y =
-      stands_at (put_spans shape puts) (start + 0) start (c.number + 0) c.number y (omega arith) (omega arith) (stand 0 0 y (inl (refl, refl, refl))) in
-      elim (in_append x (if nat_le stop t then put_turn c.number Misses start stop ∷ [] else []) (put_turns shape c stop rest closes t) i) [
-        | inl j ↦ (
-            let (holds, k) = in_if x (nat_le stop t) (put_turn c.number Misses start stop ∷ []) j in
+      let ys : List Span = spans P shape c (put_looks rest) in
+      let st = stand_first (put_spans shape puts) y ys start c.number stand in
+      elim (in_call x (nat_le stop t) (put_turn c.number Misses start stop ∷ []) (put_turns shape c stop rest closes t) i) [
+        | inl (holds, k) ↦ (
             let over : stop ≤ t = leb-true stop t holds in
             let first : ℕ = place_of P h start in
             let is_first : IsPlaceOf P h start first = subhistory_has_place P h start (omega (arith, over, some)) in
             let few = law.full start c.number y st refl (omega (arith, over)) first is_first in
-            elim k [
-              | inl g ↦ subst IsPut (sym g) ((
-                record {
-                  some = omega (arith, some);
-                  begins = omega (arith, e);
-                  not_begun = begun_there start c.number y st;
-                  ended = λ s. absurd s;
-                  full = λ s m l. omega (arith, few, ended_up (take_batch_of shape) (take_spans shape takes) proper_takes (clock C h m) (clock C h first) (clock_rises C h m first (last_place P h start first m is_first l)));
-                  close = λ s. absurd s;
-                },
-                λ s. absurd s,
-              ))
-              | inr m ↦ absurd m
-            ])
+            subst IsPut (sym (in_one x (put_turn c.number Misses start stop) k)) (
+              record {
+                some = omega (arith, some);
+                begins = omega (arith, e);
+                not_begun = begun_there (batch_of shape) (put_spans shape puts) proper_puts start c.number y st;
+                ended = λ s. absurd s;
+                full = λ s m l. omega (arith, few, ended_up (take_batch_of shape) (take_spans shape takes) proper_takes (clock C h m) (clock C h first) (clock_rises C h m first (last_place P h start first m is_first l)));
+                close = λ s. absurd s;
+              },
+              λ s. absurd s,
+            ))
         | inr j ↦ puts_hold c stop rest closes
-            (stand_on c c start stop y (Full seen ∷ rest) rest refl (omega arith) (omega arith) stand)
+            (stand_on (put_spans shape puts) y ys start stop c.number c.number (omega arith) (omega arith) stand)
             (omega (arith, e, length-append (put_phrase shape c (Full seen)) (put_phrases shape c rest)))
             (omega (arith, f)) x j
       ]

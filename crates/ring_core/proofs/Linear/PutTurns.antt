@@ -37,6 +37,9 @@ in_append x (z ∷ xs) ys (inr i) = elim (in_append x xs ys i) [ inl j ↦ inl (
 pub in_if : {A : Type 0} (x : A) (t : Bool) (xs : List A) → In x (if t then xs else []) → (t ≡ true) × In x xs
 in_if x t xs i = grind arith
 
+pub in_one : (x y : Op) → In x (y ∷ []) → x ≡ y
+in_one x y i = grind arith
+
 -- operations of a call whose test has come out, and those of the calls after it
 pub in_call : (x : Op) (t : Bool) (xs ys : List Op) → In x ((if t then xs else []) ++ ys) → ((t ≡ true) × In x xs) ⊎ In x ys
 in_call x true xs ys i = grind (arith, in_append)

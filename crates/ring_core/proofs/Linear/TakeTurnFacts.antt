@@ -24,8 +24,8 @@ use Rattle.ring_core.proofs.OverSpans.CallSpans.{stands_at, take_phrase-item, ta
 use Rattle.ring_core.proofs.CallCounts.{ended_counts, phrase_some}
 use Rattle.ring_core.proofs.OwnEvents.{clock_end}
 use Rattle.ring_core.proofs.Linear.Turns.{In, Misses, Ends, IsEnd, Op, TakeFact}
-use Rattle.ring_core.proofs.Linear.PutTurns.{in_append, in_if, move_of}
-use Rattle.ring_core.proofs.Linear.PutTurnFacts.{last_place}
+use Rattle.ring_core.proofs.Linear.PutTurns.{in_if, in_call, in_one, move_of}
+use Rattle.ring_core.proofs.Linear.PutTurnFacts.{last_place, Stand, stand_on, stand_first, begun_there}
 use Rattle.ring_core.proofs.Linear.TakeTurns.{take_turn, dequeue_turns, take_long, end_long, take_turns, item_until, after_until, end_some, ItemIs}
 use Rattle.bits_core.proofs.LawLemmas.{subhistory_has_place}
 
@@ -45,18 +45,6 @@ module _ (shape : Shape) (h : List Event) (puts : Puts) (takes : Takes) (law : L
       TakeFact h all_events all_stored (counts_ended (put_spans shape puts)) (counts_begun (take_spans shape takes)) (counts_ended (take_spans shape takes)) y ×
       ItemIs all_items y.kind y.number × (IsEnd y.kind → (all_events < length (subhistory P h)) × (puts.closes ≡ true))
 
-  -- these spans are among those of all takes, after this many events and items
-  abbrev Stand : List Span → ℕ → ℕ → Type 0
-  Stand xs start k = (s n : ℕ) (x : Span) → IsSpanAt xs s n x → IsSpanAt (take_spans shape takes) (start + s) (k + n) x
-
-  stand_on : (y : Span) (ys : List Span) (start stop k k' : ℕ) → stop ≡ start + whole y → k' ≡ k + counts y.outcome → Stand (y ∷ ys) start k → Stand ys stop k'
-  stand_on y ys start stop k k' e f stand s n x st =
-      grind (arith, stands_at (take_spans shape takes) (start + (whole y + s)) (stop + s) (k + (counts y.outcome + n)) (k' + n) x (omega (arith, e)) (omega (arith, f)) (stand (whole y + s) (counts y.outcome + n) x (inr (s, n, refl, refl, st))), take_spans shape takes, whole y, counts y.outcome)
-
-  stand_first : (y : Span) (ys : List Span) (start k : ℕ) → Stand (y ∷ ys) start k → IsSpanAt (take_spans shape takes) start k y
-  stand_first y ys start k stand =
-      stands_at (take_spans shape takes) (start + 0) start (k + 0) k y (omega arith) (omega arith) (stand 0 0 y (inl (refl, refl, refl)))
-
   -- what holds once all takes from here on have ended
   abbrev Told : Count → ℕ → List Take → End → Type 0
   Told c start rest end =
@@ -65,10 +53,6 @@ module _ (shape : Shape) (h : List Event) (puts : Puts) (takes : Takes) (law : L
 
   told_on : (c : Count) (start : ℕ) (x : Take) (rest : List Take) (end : End) → Told c start (x ∷ rest) end → Told (count_after shape c x) (start + take_long shape c x) rest end
   told_on c start x rest end told t tells l = grind (arith, length-append)
-
-  begun_there : (start k : ℕ) (y : Span) → IsSpanAt (take_spans shape takes) start k y → (i : ℕ) → i ≤ start → counts_begun (take_spans shape takes) i ≤ k
-  begun_there start k y st i l =
-      grind (arith, counts_begun (take_spans shape takes) (start + 0), take_spans shape takes, begun_at (take_batch_of shape) (take_spans shape takes) proper_takes start k y st 0 (omega arith), begun_up (take_batch_of shape) (take_spans shape takes) proper_takes i (start + 0) (omega (arith, l)))
 
   -- the place where an operation begins
   first_at : (start : ℕ) → start < length (subhistory C h) → IsPlaceOf C h start (place_of C h start)
@@ -92,7 +76,7 @@ module _ (shape : Shape) (h : List Event) (puts : Puts) (takes : Takes) (law : L
           some = some;
           at_place = q.before;
           last_place = λ t l. last_place C h start (place_of C h start) t q l;
-          not_begun = λ j l. omega (arith, begun_there start k y st j l);
+          not_begun = λ j l. omega (arith, begun_there (take_batch_of shape) (take_spans shape takes) proper_takes start k y st j l);
           ended = λ s j l. omega (arith, ended_counts (take_spans shape takes) start' k z j st' (omega (arith, l, stops)), counted, within);
           empty = λ s. absurd s;
           told = λ s. absurd s;
@@ -105,7 +89,7 @@ module _ (shape : Shape) (h : List Event) (puts : Puts) (takes : Takes) (law : L
       )
 
   pub takes_hold :
-      (c : Count) (start : ℕ) (rest : List Take) (end : End) → Stand (spans C shape c (take_looks rest end)) start c.number → Told c start rest end →
+      (c : Count) (start : ℕ) (rest : List Take) (end : End) → Stand (take_spans shape takes) (spans C shape c (take_looks rest end)) start c.number → Told c start rest end →
       (y : Op) → In y (take_turns h shape c start rest end (length (subhistory C h))) → IsTake y
   takes_hold c start [] Open stand told y i = absurd i
   takes_hold c start [] (Closed seen again) stand told y i =
@@ -114,27 +98,24 @@ module _ (shape : Shape) (h : List Event) (puts : Puts) (takes : Takes) (law : L
       let stop : ℕ = start + end_long seen again in
       let u : Span = span_of C shape c (look seen (Asks true)) in
       let z : Span = span_of C shape c (look again Stops) in
-      let st = stand_first u (z ∷ []) start k stand in
+      let st = stand_first (take_spans shape takes) u (z ∷ []) start k stand in
       let (over, j) = in_if y (nat_le stop t) (take_turn h k Ends start stop ∷ []) i in
       let q = first_at start (omega (arith, leb-true stop t over, end_some seen again)) in
       let at_last = told (length h) tt (omega (arith, leb-true stop t over, clock_end C h)) in
-      elim j [
-        | inl e ↦ subst IsTake (sym e) ((
-          record {
-            some = omega (arith, end_some seen again);
-            at_place = q.before;
-            last_place = λ m l. last_place C h start (place_of C h start) m q l;
-            not_begun = begun_there start k u st;
-            ended = λ s. absurd s;
-            empty = λ s. absurd s;
-            told = λ s m l. (told m tt (omega (arith, l))).0;
-            all = λ s. at_last.1;
-          },
-          tt,
-          λ s. (omega (arith, at_last.0, clock_end P h), at_last.2),
-        ))
-        | inr m ↦ absurd m
-      ]
+      subst IsTake (sym (in_one y (take_turn h k Ends start stop) j)) (
+        record {
+          some = omega (arith, end_some seen again);
+          at_place = q.before;
+          last_place = λ m l. last_place C h start (place_of C h start) m q l;
+          not_begun = begun_there (take_batch_of shape) (take_spans shape takes) proper_takes start k u st;
+          ended = λ s. absurd s;
+          empty = λ s. absurd s;
+          told = λ s m l. (told m tt (omega (arith, l))).0;
+          all = λ s. at_last.1;
+        },
+        tt,
+        λ s. (omega (arith, at_last.0, clock_end P h), at_last.2),
+      )
   takes_hold c start (Item seen items ∷ rest) end stand told y i =
       let k : ℕ = c.number in
       let t : ℕ = length (subhistory C h) in
@@ -143,15 +124,14 @@ module _ (shape : Shape) (h : List Event) (puts : Puts) (takes : Takes) (law : L
       let stop : ℕ = start + take_long shape c x in
       let u : Span = span_of C shape c (look seen (Passes items)) in
       let us : List Span = spans C shape next (take_looks rest end) in
-      let st = stand_first u us start k stand in
+      let st = stand_first (take_spans shape takes) u us start k stand in
       let long = take_phrase-item shape c seen items in
       let test : Bool = nat_le (start + take_effect shape c x) t in
-      elim (in_append y (if test then dequeue_turns h k start stop items else []) (take_turns h shape next stop rest end t) i) [
-        | inl j ↦ (
-            let (over, m) = in_if y test (dequeue_turns h k start stop items) j in
+      elim (in_call y test (dequeue_turns h k start stop items) (take_turns h shape next stop rest end t) i) [
+        | inl (over, m) ↦ (
             dequeue_holds k start stop start items u u st st refl (omega (arith, long))
             (omega (arith, leb-true (start + take_effect shape c x) t over, item_until shape c seen items)) (omega (arith, phrase_some shape c x)) (omega arith) y m)
-        | inr j ↦ takes_hold next stop rest end (stand_on u us start stop k next.number (omega (arith, long)) (past_is k items) stand) (told_on c start x rest end told) y j
+        | inr j ↦ takes_hold next stop rest end (stand_on (take_spans shape takes) u us start stop k next.number (omega (arith, long)) (past_is k items) stand) (told_on c start x rest end told) y j
       ]
   takes_hold c start (ItemAfterClose seen again items ∷ rest) end stand told y i =
       let k : ℕ = c.number in
@@ -162,17 +142,16 @@ module _ (shape : Shape) (h : List Event) (puts : Puts) (takes : Takes) (law : L
       let u : Span = span_of C shape c (look seen (Asks true)) in
       let z : Span = span_of C shape c (look again (Passes items)) in
       let us : List Span = spans C shape next (take_looks rest end) in
-      let st = stand_first u (z ∷ us) start k stand in
-      let stand' : Stand (z ∷ us) (start + whole u) k = stand_on u (z ∷ us) start (start + whole u) k k refl (omega arith) stand in
-      let st' = stand_first z us (start + whole u) k stand' in
+      let st = stand_first (take_spans shape takes) u (z ∷ us) start k stand in
+      let stand' : Stand (take_spans shape takes) (z ∷ us) (start + whole u) k = stand_on (take_spans shape takes) u (z ∷ us) start (start + whole u) k k refl (omega arith) stand in
+      let st' = stand_first (take_spans shape takes) z us (start + whole u) k stand' in
       let long = take_phrase-after shape c seen again items in
       let test : Bool = nat_le (start + take_effect shape c x) t in
-      elim (in_append y (if test then dequeue_turns h k start stop items else []) (take_turns h shape next stop rest end t) i) [
-        | inl j ↦ (
-            let (over, m) = in_if y test (dequeue_turns h k start stop items) j in
+      elim (in_call y test (dequeue_turns h k start stop items) (take_turns h shape next stop rest end t) i) [
+        | inl (over, m) ↦ (
             dequeue_holds k start stop (start + whole u) items u z st st' refl (omega (arith, long))
             (omega (arith, leb-true (start + take_effect shape c x) t over, after_until shape c seen again items)) (omega (arith, phrase_some shape c x)) (omega arith) y m)
-        | inr j ↦ takes_hold next stop rest end (stand_on z us (start + whole u) stop k next.number (omega (arith, long)) (past_is k items) stand')
+        | inr j ↦ takes_hold next stop rest end (stand_on (take_spans shape takes) z us (start + whole u) stop k next.number (omega (arith, long)) (past_is k items) stand')
             (told_on c start x rest end told) y j
       ]
   takes_hold c start (Empty seen ∷ rest) end stand told y i =
@@ -182,32 +161,28 @@ module _ (shape : Shape) (h : List Event) (puts : Puts) (takes : Takes) (law : L
       let stop : ℕ = start + take_long shape c x in
       let u : Span = span_of C shape c (look seen (Asks false)) in
       let us : List Span = spans C shape (count_after shape c x) (take_looks rest end) in
-      let st = stand_first u us start k stand in
+      let st = stand_first (take_spans shape takes) u us start k stand in
       let long = take_phrase-empty shape c seen in
       let some = phrase_some shape c x in
-      elim (in_append y (if nat_le stop t then take_turn h k Misses start stop ∷ [] else []) (take_turns h shape (count_after shape c x) stop rest end t) i) [
-        | inl j ↦ (
-            let (over, m) = in_if y (nat_le stop t) (take_turn h k Misses start stop ∷ []) j in
+      elim (in_call y (nat_le stop t) (take_turn h k Misses start stop ∷ []) (take_turns h shape (count_after shape c x) stop rest end t) i) [
+        | inl (over, m) ↦ (
             let q = first_at start (omega (arith, leb-true stop t over, some)) in
             let (few, not_closed) = law.empty start k u st refl (omega (arith, leb-true stop t over, long)) (place_of C h start) q in
             let early = (ended_begun (take_batch_of shape) (take_spans shape takes) proper_takes (clock C h (place_of C h start))).0 in
-            let here = begun_there start k u st (clock C h (place_of C h start)) (omega (arith, q.before)) in
-            elim m [
-              | inl e ↦ subst IsTake (sym e) ((
-                record {
-                  some = omega (arith, some);
-                  at_place = q.before;
-                  last_place = λ n l. last_place C h start (place_of C h start) n q l;
-                  not_begun = begun_there start k u st;
-                  ended = λ s. absurd s;
-                  empty = λ s. (omega (arith, few, early, here), not_closed);
-                  told = λ s. absurd s;
-                  all = λ s. absurd s;
-                },
-                tt,
-                λ s. absurd s,
-              ))
-              | inr n ↦ absurd n
-            ])
-        | inr j ↦ takes_hold (count_after shape c x) stop rest end (stand_on u us start stop k k (omega (arith, long)) (omega arith) stand) (told_on c start x rest end told) y j
+            let here = begun_there (take_batch_of shape) (take_spans shape takes) proper_takes start k u st (clock C h (place_of C h start)) (omega (arith, q.before)) in
+            subst IsTake (sym (in_one y (take_turn h k Misses start stop) m)) (
+              record {
+                some = omega (arith, some);
+                at_place = q.before;
+                last_place = λ n l. last_place C h start (place_of C h start) n q l;
+                not_begun = begun_there (take_batch_of shape) (take_spans shape takes) proper_takes start k u st;
+                ended = λ s. absurd s;
+                empty = λ s. (omega (arith, few, early, here), not_closed);
+                told = λ s. absurd s;
+                all = λ s. absurd s;
+              },
+              tt,
+              λ s. absurd s,
+            ))
+        | inr j ↦ takes_hold (count_after shape c x) stop rest end (stand_on (take_spans shape takes) u us start stop k k (omega (arith, long)) (omega arith) stand) (told_on c start x rest end told) y j
       ]
