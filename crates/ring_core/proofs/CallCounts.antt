@@ -27,10 +27,6 @@ stored_ended_is shape c (Stored seen items ∷ puts) t =
     grind (arith, put_phrase-stored, same_count, stored_ended_is shape (stored_after shape c (Stored seen items)) puts (t - whole (span_of P shape c (look seen (Passes items)))))
 stored_ended_is shape c (Full seen ∷ puts) t = grind (arith, same_count, stored_ended_is shape c puts (t - whole (span_of P shape c (look seen Stops))))
 
--- a test after a number
-pub lt-behind : (a b t : ℕ) → nat_lt (a + b) t ≡ nat_lt b (t - a)
-lt-behind a b t = grind (arith, nat_tests)
-
 -- the takes whose count write has begun
 pub taken_begun_is :
     (shape : Shape) (c : Count) (takes : List Take) (end : End) (t : ℕ) → taken_begun shape c takes t ≡ counts_begun (spans C shape c (take_looks takes end)) t
@@ -42,7 +38,7 @@ taken_begun_is shape c (ItemAfterClose seen again items ∷ takes) end t =
     let next : Count = count_after shape c x in
     let y : Span = span_of C shape c (look seen (Asks true)) in
     let z : Span = span_of C shape c (look again (Passes items)) in
-    grind (arith, take_looks, length-append, take_phrase-after, same_count, lt-behind, no_count, taken_begun_is shape next takes end (t - whole y - whole z))
+    grind (arith, take_looks, length-append, take_phrase-after, same_count, no_count, taken_begun_is shape next takes end (t - whole y - whole z), nat_tests)
 taken_begun_is shape c (Empty seen ∷ takes) end t =
     grind (arith, take_phrase-empty shape c seen, taken_begun_is shape c takes end (t - whole (span_of C shape c (look seen (Asks false)))))
 

@@ -30,7 +30,7 @@ use Rattle.ring_core.proofs.OverSpans.SpanItems.{within_items}
 use Rattle.ring_core.proofs.OverSpans.Looks.{puts_as_looks, takes_as_looks, proper_puts, proper_takes, puts_items, takes_items, asks_word}
 use Rattle.ring_core.proofs.Machines.Lengths.{length-scan}
 use Rattle.ring_core.proofs.CloseEnds.{place_within, not_ended}
-use Rattle.ring_core.proofs.OverSpans.CallSpans.{stands_at, put_items, put_size, put_has_span, item_has_span, empty_has_span, after_has_second}
+use Rattle.ring_core.proofs.OverSpans.CallSpans.{stands_at, put_items, put_has_span, item_has_span, empty_has_span, after_has_second}
 use Rattle.ring_core.proofs.EndedCounts.{puts_ended_is, takes_begun_is}
 use Rattle.ring_core.proofs.ScanPlaces.{ScanSpan, scan_there, none-close}
 use Rattle.ring_core.proofs.CallCounts.{stored_ended_is, taken_begun_is, put_tally, take_tally}
@@ -137,7 +137,7 @@ module _ (shape : Shape) (h : List Event) (puts : Puts) (takes : Takes) (run : I
       let size : suc a.index * w ≡ a.index * w + w = suc-mul a.index w in
       let size' : suc b.index * w ≡ b.index * w + w = suc-mul b.index w in
       let digits : 0 < w = shape.has_digits in
-      law.quiet a.start a.n a.index x.span x.stands (omega (arith, slice_get_within (put_items a.call) a.index item a.has, ap counts x.outcome_is, put_size a.call))
+      law.quiet a.start a.n a.index x.span x.stands (grind (arith, slice_get_within (put_items a.call) a.index item a.has, ap counts x.outcome_is))
       y.start b.n b.index y.span y.stands (within_items y.span.outcome b.index item' y.listed)
       (ap (λ i. i % capacity_of shape) (sym a.number) ∙ cell ∙ ap (λ i. i % capacity_of shape) b.number) start stop start' stop'
       (interval_at P h word _ _ _ start stop (omega (arith, a.word_is, x.scan_is)) (omega (arith, a.word_is, x.scan_is, size, digits)) on)

@@ -19,12 +19,6 @@ use Rattle.ring_core.proofs.OwnEvents.{by_case}
 use Rattle.ring_core.proofs.CloseReads.{only_close, no_close-puts}
 use Rattle.bits_core.proofs.LawLemmas.{access_is_made}
 
-first-yes : (s : Side) (e : Event) (h : List Event) → is_by s e ≡ true → first_place s (e ∷ h) ≡ 0
-first-yes s e h f = ap (λ (b : Bool). if b then 0 else suc (first_place s h)) f
-
-first-no : (s : Side) (e : Event) (h : List Event) → is_by s e ≡ false → first_place s (e ∷ h) ≡ suc (first_place s h)
-first-no s e h f = ap (λ (b : Bool). if b then 0 else suc (first_place s h)) f
-
 -- the side's clock advances at its first event
 abbrev GoesOn : Side → List Event → ℕ → Type 0
 GoesOn s h place = clock s h (suc place) ≡ suc (clock s h place)
@@ -33,10 +27,10 @@ goes_on : (s : Side) (h : List Event) → first_place s h < length h → GoesOn 
 goes_on s [] l = absurd (omega (arith, l))
 goes_on s (e ∷ h) l =
     by_case (is_by s e)
-    (λ f. rw (first-yes s e h f) (clock-yes s e h 0 f ∙ ap suc (clock-zero s h ∙ sym (clock-zero s (e ∷ h)))))
+    (λ f. rw (ap (λ (b : Bool). if b then 0 else suc (first_place s h)) f) (clock-yes s e h 0 f ∙ ap suc (clock-zero s h ∙ sym (clock-zero s (e ∷ h)))))
     (λ f.
-    (let more : first_place s h < length h = omega (arith, l, first-no s e h f) in
-    rw (first-no s e h f) (clock-no s e h (suc (first_place s h)) f ∙ goes_on s h more ∙ ap suc (sym (clock-no s e h (first_place s h) f)))))
+    (let more : first_place s h < length h = grind (arith, l) in
+    rw (ap (λ (b : Bool). if b then 0 else suc (first_place s h)) f) (clock-no s e h (suc (first_place s h)) f ∙ goes_on s h more ∙ ap suc (sym (clock-no s e h (first_place s h) f)))))
 
 -- and at its first event after a place
 goes_on_behind : (s : Side) (h : List Event) (i : ℕ) → i + first_place s (drop i h) < length h → GoesOn s h (i + first_place s (drop i h))

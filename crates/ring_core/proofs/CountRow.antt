@@ -44,35 +44,10 @@ clearing_keeps old (suc j) bits k above = keeps_step old j (clearing_keeps old j
 abbrev ClearsBelow : (ℕ → Bool) → ℕ → Type 0
 ClearsBelow old j = (bits : ℕ → Bool) → ((k : ℕ) → k < j → bits k ≡ old k) → (k : ℕ) → k < j → bits_after bits (clearing old j) k ≡ false
 
--- one place further, by the bit that was remembered there
-clears_step :
-    (old : ℕ → Bool) (j : ℕ) → ClearsBelow old j → (b : Bool) → old j ≡ b → (bits : ℕ → Bool) →
-    ((k : ℕ) → k < suc j → bits k ≡ old k) → (k : ℕ) → (k ≡ j) ⊎ (k < j) →
-    bits_after bits (cond b (set_to_0 j ∷ clearing old j) (clearing old j)) k ≡ false
-clears_step old j rest b e bits same k h1 = grind (arith, clearing_keeps)
-
 -- those of a clearing do so, if the bits below are those remembered
 clearing_clears : (old : ℕ → Bool) (j : ℕ) → ClearsBelow old j
 clearing_clears old zero bits same k below = absurd (omega arith)
-clearing_clears old (suc j) bits same k below = grind (arith, clears_step, at_or_below, clearing_clears old j)
-
--- the bit of the value, by what it was
-value_set : (bits : ℕ → Bool) (v : ℕ) (b : Bool) → bits v ≡ b → bits_after bits (cond b [] (set_to_1 v ∷ []) ++ clearing bits v) v ≡ true
-value_set bits v b e = grind (arith, clearing_keeps)
-
--- the bits below the value, by what its own was
-below_clear :
-    (bits : ℕ → Bool) (v : ℕ) (b : Bool) (j : ℕ) → j < v →
-    bits_after bits (cond b [] (set_to_1 v ∷ []) ++ clearing bits v) j ≡ false
-below_clear bits v b j below = grind (arith, clearing_clears)
-
--- after a unary write of v the bit v is set
-pub phrase_sets : (bits : ℕ → Bool) (v : ℕ) → bits_after bits (unary_phrase bits v) v ≡ true
-phrase_sets bits v = value_set bits v (bits v) refl
-
--- after a unary write of v the bits below v are clear
-pub phrase_clears : (bits : ℕ → Bool) (v j : ℕ) → j < v → bits_after bits (unary_phrase bits v) j ≡ false
-phrase_clears bits v j below = below_clear bits v (bits v) j below
+clearing_clears old (suc j) bits same k below = grind (arith, at_or_below, clearing_clears old j, clearing_keeps)
 
 -- ---- how many bit writes the next unary write has
 
@@ -91,14 +66,6 @@ clearing_none : (bits : ℕ → Bool) (v : ℕ) → ((j : ℕ) → j < v → bit
 clearing_none bits zero clear = refl
 clearing_none bits (suc v) clear =
     ap (λ b. cond b (set_to_0 v ∷ clearing bits v) (clearing bits v)) (clear v (omega arith)) ∙ clearing_none bits v (λ j h. clear j (omega arith))
-
--- if the last bit below the place is the only one set, it alone is cleared
-clearing_one : (bits : ℕ → Bool) (v : ℕ) → bits v ≡ true → ((j : ℕ) → j < v → bits j ≡ false) → clearing bits (suc v) ≡ set_to_0 v ∷ []
-clearing_one bits v set clear = grind (arith, clearing_none)
-
--- at most one bit is set
-setting_short : (v : ℕ) (b : Bool) → length (cond b [] (set_to_1 v ∷ [])) ≤ 1
-setting_short v b = grind arith
 
 -- the bit writes of a unary write are those that set and those that clear
 length_phrase : (bits : ℕ → Bool) (v : ℕ) → length (unary_phrase bits v) ≡ length (setting bits v) + length (clearing bits v)
@@ -127,7 +94,7 @@ counted_on shape c items = record { number = number_past c.number items; bits = 
 
 -- and so is a count after a write
 pub counted_is_count : (shape : Shape) (c : Count) (items : List ℕ) → IsCount shape (counted_on shape c items)
-counted_is_count shape c items = grind (arith, phrase_sets, phrase_clears)
+counted_is_count shape c items = grind (arith, clearing_keeps, clearing_clears)
 
 -- if a bit below the place is set, some are cleared
 clearing_some : (bits : ℕ → Bool) (v j : ℕ) → bits v ≡ true → v < j → 1 ≤ length (clearing bits j)
@@ -141,22 +108,14 @@ clearing_some bits v (suc j) set l = elim (at_or_below v j l) [
     longer true h = omega arith
     longer false h = h
 
--- a batch is smaller than the modulus
-pub batch_fits : (shape : Shape) → suc (capacity_of shape + batch_of shape) ≤ modulus_of shape
-batch_fits shape = omega (arith, shape.room_to_count)
-
 pub has_batch : (shape : Shape) → 1 ≤ batch_of shape
 has_batch shape = omega (arith, shape.has_batch)
 
 pub batch_below : (shape : Shape) → batch_of shape < modulus_of shape
 batch_below shape = omega (arith, shape.room_to_count)
 
--- and so is a batch of takes
-pub take_batch_fits : (shape : Shape) → suc (capacity_of shape + take_batch_of shape) ≤ modulus_of shape
-take_batch_fits shape = omega (arith, shape.room_to_take)
-
 pub take_batch_below : (shape : Shape) → take_batch_of shape < modulus_of shape
-take_batch_below shape = omega (arith, take_batch_fits shape)
+take_batch_below shape = grind (arith, shape.room_to_take)
 
 pub batch_by_below : (shape : Shape) (s : Side) → batch_by shape s < modulus_of shape
 batch_by_below shape s = grind (arith, batch_below, take_batch_below)
@@ -183,21 +142,17 @@ pub batch_long :
     1 ≤ length (batch_phrase shape s c items)
 batch_long shape s c items is some few = grind (arith, length-map, bits_long)
 
--- a write that counts one item has at most two bit writes
-step_bits_short : (shape : Shape) (c : Count) (item : ℕ) → IsCount shape c → length (count_bits shape c (item ∷ [])) ≤ 2
-step_bits_short shape c item is = grind (arith, next_modulo, some_modulus, clearing_one, length_phrase, setting_short)
-
 clearing_short : (bits : ℕ → Bool) (v : ℕ) → length (clearing bits v) ≤ v
 clearing_short bits zero = omega arith
 clearing_short bits (suc v) = grind (arith, clearing_short bits v)
 
 -- and as many accesses
 pub step_short : (shape : Shape) (s : Side) (c : Count) (item : ℕ) → IsCount shape c → length (batch_phrase shape s c (item ∷ [])) ≤ 2
-step_short shape s c item is = search (arith, length-map, step_bits_short)
+step_short shape s c item is = search (arith, length-map, next_modulo, some_modulus, length_phrase, clearing_none)
 
 -- a write that counts several has no more than the modulus
 pub batch_short : (shape : Shape) (s : Side) (c : Count) (items : List ℕ) → length (batch_phrase shape s c items) ≤ modulus_of shape
-batch_short shape s c items = grind (arith, length-map, length_phrase, setting_short, clearing_short, mod_below, some_modulus)
+batch_short shape s c items = grind (arith, length-map, length_phrase, clearing_short, mod_below, some_modulus)
 
 -- ---- the values that are written to a count
 

@@ -44,12 +44,6 @@ bits-append s [] ys i = grind (arith, none_taken)
 bits-append s (x ∷ xs) ys zero = grind arith
 bits-append s (x ∷ xs) ys (suc i) = grind (arith, bits-append s xs ys i)
 
--- and the same for accesses, one after the other
-made-append :
-    (s : Side) (xs ys : List Made) (i : ℕ) →
-    bit_writes s (events_of s (xs ++ ys)) i ≡ bit_writes s (events_of s xs) i + bit_writes s (events_of s ys) (i - 2 * length xs)
-made-append s xs ys i = grind (arith, events_of-append, bits-append, length-events)
-
 -- ---- accesses without writes of the count
 
 -- the end of an access begins no write
@@ -113,7 +107,7 @@ quiet_all s (x ∷ xs) q = rw (q.0, end_none s x) (quiet_all s xs q.1)
 past_quiet :
     (s : Side) (a b d : List Made) (i : ℕ) → IsQuiet s a → IsQuiet s b →
     bit_writes s (events_of s (a ++ (b ++ d))) i ≡ bit_writes s (events_of s d) (i - (2 * length a + 2 * length b))
-past_quiet s a b d i p q = grind (arith, made-append, quiet_begun)
+past_quiet s a b d i p q = grind (arith, quiet_begun, events_of-append, bits-append, length-events)
 
 -- ---- the accesses of a count write
 
@@ -171,19 +165,12 @@ writes_from shape c looks = unary_writes c.bits (values_from shape c.number look
 kept : (u : UnaryWrite) (ws : List RowWrite) (us : List UnaryWrite) → u.writes ≡ ws → 1 ≤ length ws → having_writes (u ∷ us) ≡ u ∷ having_writes us
 kept u ws us e l = grind arith
 
--- so all are
-numbered_part :
-    (most : ℕ) (shape : Shape) (c : Count) (o : Outcome) (vs : List ℕ) → most < modulus_of shape → IsCount shape c → Passing most o →
-    having_writes (unary_writes (look_bits shape c o) vs) ≡ unary_writes (look_bits shape c o) vs →
-    having_writes (unary_writes c.bits (value_of shape c.number o ++ vs)) ≡ unary_writes c.bits (value_of shape c.number o ++ vs)
-numbered_part most shape c o vs fits is p e = grind (arith, kept, bits_long)
-
 all_numbered :
     (most : ℕ) (shape : Shape) (c : Count) (looks : List Look) → most < modulus_of shape → IsCount shape c → AllPassing most looks →
     having_writes (writes_from shape c looks) ≡ writes_from shape c looks
 all_numbered most shape c [] fits is p = refl
 all_numbered most shape c (l ∷ looks) fits is p =
-    grind (arith, numbered_part, look_is_count, all_numbered most shape (after_look shape c l.outcome) looks fits (look_is_count shape c l.outcome is) p.1)
+    grind (arith, look_is_count, all_numbered most shape (after_look shape c l.outcome) looks fits (look_is_count shape c l.outcome is) p.1, kept, bits_long)
 
 -- the values of the unary writes of a program's count
 abbrev pub counted_in : Shape → List Look → List ℕ
@@ -235,28 +222,13 @@ tail_is : (t a b n i : ℕ) → t ≡ a + b → a ≤ n → (2 * n ≤ suc i →
 tail_is t a b n i e most all none = grind (arith, at_most_or_above)
 
 count_then : (s : Side) (shape : Shape) (c : Count) (items : List ℕ) (after : List Made) (i : ℕ) → CountThen s shape c items after i
-count_then s shape c items after i = search (arith, length-map, tail_is, count_some s (count_bits shape c items) i, made-append s (batch_phrase shape s c items) after i)
-
-lt_so : (a b m : ℕ) → a < b → ◌≡◌ {A = ℕ} (if nat_lt a b then m else 0) m
-lt_so a b m l = grind (arith, nat_tests)
-
-le_so : (a b m : ℕ) → a ≤ b → ◌≡◌ {A = ℕ} (if nat_le a b then m else 0) m
-le_so a b m l = grind (arith, nat_tests)
-
-le_none : (a b m : ℕ) → b < a → ◌≡◌ {A = ℕ} (if nat_le a b then m else 0) 0
-le_none a b m l = grind (arith, nat_tests)
+count_then s shape c items after i = search (arith, length-map, tail_is, count_some s (count_bits shape c items) i, events_of-append, bits-append, length-events)
 
 no_one : (t : Bool) → ◌≡◌ {A = ℕ} (if t then 0 else 0) 0
 no_one t = grind arith
 
 ended_more : (u : UnaryWrite) (us : List UnaryWrite) (t : ℕ) → length u.writes ≤ t → unary.ended (u ∷ us) t ≡ suc (unary.ended us (t - length u.writes))
 ended_more u us t l = grind (arith, nat_tests)
-
--- what the first writes count, if the first one counts m
-tally_begun :
-    (m : ℕ) (ms : List ℕ) (u : UnaryWrite) (us : List UnaryWrite) (t : ℕ) →
-    tally (m ∷ ms) (unary.begun_writes (u ∷ us) t) ≤ m + tally ms (unary.begun_writes us (t - length u.writes))
-tally_begun m ms u us t = grind arith
 
 -- one look: its count write and what follows, after a number of events
 begun_step :
@@ -265,7 +237,7 @@ begun_step :
     tally (size_of o ++ ms)
     (unary.begun_writes (unary_writes c.bits (value_of shape c.number o ++ vs)) (bit_writes s (events_of s (count_part s shape c o ++ after)) (i - place))) ≤
     (if nat_lt place i then counts o else 0) + counts_begun xs (i - (place + 2 * length (count_part s shape c o)))
-begun_step s shape c (Passes items) ms vs after xs place rest i = grind (arith, at_most_or_above, count_then, tally_begun, lt_so)
+begun_step s shape c (Passes items) ms vs after xs place rest i = grind (arith, at_most_or_above, count_then, nat_tests)
 begun_step s shape c Stops ms vs after xs place rest i = grind arith
 begun_step s shape c (Asks answer) ms vs after xs place rest i = grind arith
 
@@ -291,7 +263,7 @@ ended_step :
     (if nat_le (place + 2 * length (count_part s shape c o)) i then counts o else 0) + counts_ended xs (i - (place + 2 * length (count_part s shape c o))) ≤
     tally (size_of o ++ ms)
     (unary.ended (unary_writes c.bits (value_of shape c.number o ++ vs)) (bit_writes s (events_of s (count_part s shape c o ++ after)) (i - 1 - place)))
-ended_step most s shape c (Passes items) ms vs after xs place proper rest i = search (arith, at_most_or_above, count_then, ended_more, le_so, ended_zero, le_none)
+ended_step most s shape c (Passes items) ms vs after xs place proper rest i = search (arith, at_most_or_above, count_then, ended_more, ended_zero, nat_tests)
 ended_step most s shape c Stops ms vs after xs place proper rest i = grind (arith, no_one)
 ended_step most s shape c (Asks answer) ms vs after xs place proper rest i = grind (arith, no_one)
 
@@ -329,15 +301,6 @@ pub count_writes_ended :
     tally (sizes_in looks) (unary.ended (numbered_of (counted_in shape looks)) (bit_writes s (events_of s (look_accesses s shape first_count looks behind)) (i - 1)))
 count_writes_ended most s shape looks behind fits p i = rw (numbered_is most shape looks fits p) (ended_from_look most s shape first_count looks behind fits (first_is_count shape) p i)
 
--- the bit writes of one look and those that follow
-part_writes :
-    (s : Side) (shape : Shape) (c : Count) (o : Outcome) (vs : List ℕ) (after : List Made) →
-    count_begun s (events_of s after) ≡ row_writes (unary_writes (look_bits shape c o) vs) →
-    count_begun s (events_of s (count_part s shape c o ++ after)) ≡ row_writes (unary_writes c.bits (value_of shape c.number o ++ vs))
-part_writes s shape c (Passes items) vs after e = grind (arith, events_of-append, filter_map-append, count_all)
-part_writes s shape c Stops vs after e = e
-part_writes s shape c (Asks answer) vs after e = e
-
 past_part :
     (s : Side) (a after : List Made) → IsQuiet s a → count_begun s (events_of s (a ++ after)) ≡ count_begun s (events_of s after)
 past_part s a after q = grind (arith, events_of-append, filter_map-append, quiet_all)
@@ -349,14 +312,8 @@ look_writes :
     count_begun s (events_of s (count_part s shape c l.outcome ++ after))
 look_writes s shape c l after = search (arith, past_part, quiet_scan, quiet_word)
 
-program_writes :
+pub program_writes :
     (s : Side) (shape : Shape) (c : Count) (looks : List Look) (behind : List Made) → IsQuiet s behind →
     count_begun s (events_of s (look_accesses s shape c looks behind)) ≡ row_writes (writes_from shape c looks)
 program_writes s shape c [] behind q = quiet_all s behind q
-program_writes s shape c (l ∷ looks) behind q = grind (arith, look_writes, part_writes, program_writes s shape (after_look shape c l.outcome) looks behind q)
-
--- the bit writes of a program's count are those of its unary writes
-pub count_writes_are :
-    (s : Side) (shape : Shape) (looks : List Look) (behind : List Made) → IsQuiet s behind →
-    count_begun s (events_of s (look_accesses s shape first_count looks behind)) ≡ writes_of (counted_in shape looks)
-count_writes_are s shape looks behind q = program_writes s shape first_count looks behind q
+program_writes s shape c (l ∷ looks) behind q = grind (arith, look_writes, program_writes s shape (after_look shape c l.outcome) looks behind q, events_of-append, filter_map-append, count_all)

@@ -54,15 +54,12 @@ one-words : (shape : Shape) (n : ℕ) (items : List ℕ) → AllOne (row_read_by
 one-words shape n [] = record {}
 one-words shape n (item ∷ items) = search (arith, one-append, one-reads, one-words shape (suc n) items)
 
-one-items : (shape : Shape) (c : Count) (items : List ℕ) → AllOne (row_read_by C) (modulus_of shape) (items_phrase shape c items)
-one-items shape c items = search (arith, one-append, one-words, one-writes)
-
 one-close : (modulus : ℕ) (v : Bool) (rest : List Made) → AllOne (row_read_by C) modulus rest → AllOne (row_read_by C) modulus (Read X v ∷ rest)
 one-close modulus v rest p = ((λ i w e last. let bits : X ≡ S i = cc in absurd (cc)), p)
 
 one-take : (shape : Shape) (z : Count) (x : Take) → IsTake shape z.number x → AllOne (row_read_by C) (modulus_of shape) (take_phrase shape z x)
-one-take shape z (Item c i) (sees, fits) = search (arith, one-append, one-scan, one-items)
-one-take shape z (ItemAfterClose c d i) (none, sees, fits) = search (arith, one-append, one-scan, one-close, one-items)
+one-take shape z (Item c i) (sees, fits) = search (arith, one-append, one-scan, one-words, one-writes)
+one-take shape z (ItemAfterClose c d i) (none, sees, fits) = search (arith, one-append, one-scan, one-close, one-words, one-writes)
 one-take shape z (Empty c) none = search (arith, one-append, one-scan, one-close)
 
 one-calls :

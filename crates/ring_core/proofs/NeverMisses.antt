@@ -30,17 +30,9 @@ use Rattle.register_core.proofs.MadeReads.{other_other as other_twice}
 
 -- ---- the values of a count
 
-one_within : (last v : ℕ) → v ≤ last → All (λ u. u ≤ last) (v ∷ [])
-one_within last v l zero d m = l
-one_within last v l (suc k) d m = absurd (omega (arith, m))
-
--- none is above the number of the last bit
-value_within : (shape : Shape) (n : ℕ) (o : Outcome) (last : ℕ) → suc last ≡ modulus_of shape → All (λ v. v ≤ last) (value_of shape n o)
-value_within shape n o last e = grind (arith, mod_below, one_within, All-nil)
-
 counted_within : (shape : Shape) (n : ℕ) (looks : List Look) (last : ℕ) → suc last ≡ modulus_of shape → All (λ v. v ≤ last) (values_from shape n looks)
 counted_within shape n [] last e = All-nil _
-counted_within shape n (l ∷ looks) last e = grind (arith, All-append, value_within, counted_within shape (look_number n l.outcome) looks last e)
+counted_within shape n (l ∷ looks) last e = grind (arith, All-append, counted_within shape (look_number n l.outcome) looks last e, mod_below)
 
 -- so the last bit is not read as 0 after all others
 never_reads :

@@ -69,12 +69,9 @@ doers_before s (e ∷ h) d = grind (arith, doers_before s h d.1)
 
 -- ---- the writes of a side's count are its own
 
-other_none : (s by : Side) (b : Bit) (act : Act) → by ≡ doer b act → same_side s by ≡ false → row_write (number_in_count s b) act ≡ None
-other_none s by b act d f = grind arith
-
 own_count : (s : Side) (h : List Event) → AreByDoers h → count_begun s h ≡ count_begun s (subhistory s h)
 own_count s [] d = refl
-own_count s (e ∷ h) d = grind (arith, other_none, own_count s h d.1)
+own_count s (e ∷ h) d = grind (arith, own_count s h d.1)
 
 -- the same in a lawful history
 pub count_begun_own : (shape : Shape) (s : Side) (h : List Event) → IsLawful shape h → count_begun s h ≡ count_begun s (subhistory s h)

@@ -14,7 +14,7 @@ use Rattle.ring_core.specs.ConsumerState.{ConsumerState, IsConsumer, IsTaking, d
 use Rattle.ring_core.specs.ConsumerCalls.{ConsumerStands, ConsumerMoves}
 use Rattle.ring_core.proofs.Machines.MachineParts.{ScanGoesOn, gives}
 use Rattle.ring_core.proofs.Machines.NextParts.{scan_reads}
-use Rattle.ring_core.proofs.Machines.ConsumerInvariant.{at_stage, scan_keeps, rescan_keeps}
+use Rattle.ring_core.proofs.Machines.ConsumerInvariant.{at_stage, scan_keeps, still_scans}
 use Rattle.ring_core.proofs.Machines.ConsumerMoves.{made_at, scan_on, rescan_on, scan_item, rescan_item}
 use Rattle.ring_core.proofs.Machines.ConsumerNext.{Going, next_scan, next_rescan, rescan_zeros}
 
@@ -43,7 +43,7 @@ fresh_there p at is = ⊎_elim (λ e. (at_stage p Scanning is e).2) (λ e. (at_s
 pub open_keeps :
     (p : ConsumerState) (s : ScanState) (answer : Bool) → IsAtScan p → IsConsumer p → (LastBitIsDue p.shape C (due_take p) → answer ≡ true) →
     s ≡ scan_read p.scan answer → s.found ≡ false → IsConsumer (record p { scan = s })
-open_keeps p s answer at is one fed open_still = grind (arith, ⊎_elim, scan_keeps, rescan_keeps)
+open_keeps p s answer at is one fed open_still = grind (arith, ⊎_elim, scan_keeps, still_scans, at_stage)
 
 pub open_on : (p : ConsumerState) (s : ScanState) (answer : Bool) → IsAtScan p → ScanGoesOn p.scan s answer → ConsumerMoves p answer (record p { scan = s })
 open_on p s answer at goes = ⊎_elim (λ e. scan_on p s answer e goes) (λ e. rescan_on p s answer e goes) at
@@ -76,12 +76,7 @@ pub zero_keeps :
     IsConsumer (record p { scan = s })
 zero_keeps p s at is not_last fed = grind (arith, scans_there p, open_keeps p s false)
 
-scan_zeros :
-    (p : ConsumerState) (calls : Takes) (made : List Made) → p.stage ≡ Scanning → ConsumerStands p calls made → IsScanning C (modulus_of p.shape) p.scan →
-    LastIsDue p.scan → EndsInZeros p.shape C made
-scan_zeros p calls made e stands scans (not_found, last) = grind (arith, made_at, scan_reads)
-
 -- if the last bit is due, the scan has read 0 in all bits below
 pub zeros_there :
     (p : ConsumerState) (calls : Takes) (made : List Made) → IsAtScan p → IsConsumer p → ConsumerStands p calls made → LastIsDue p.scan → EndsInZeros p.shape C made
-zeros_there p calls made at is stands last = grind (arith, ⊎_elim, scan_zeros, scans_there, rescan_zeros)
+zeros_there p calls made at is stands last = grind (arith, ⊎_elim, scans_there, rescan_zeros, made_at, scan_reads)

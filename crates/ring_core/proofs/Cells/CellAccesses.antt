@@ -100,14 +100,11 @@ in_cell_write k [] m j (y, e, f) = absurd (cc)
 in_cell_write k (w ∷ writes) zero j (y, e, f) = grind arith
 in_cell_write k (w ∷ writes) (suc m) j (y, e, f) = in_cell_write k writes m j (y, e, f)
 
-in_one_read : (k i : ℕ) (v : Bool) (m j : ℕ) → AtCell (Read (Cell k i) v ∷ []) m j → k ≡ j
-in_one_read k i v m j h1 = grind arith
-
 in_cell_read : (k item n m j : ℕ) → AtCell (digit_reads k item n) m j → k ≡ j
 in_cell_read k item zero m j (y, e, f) = absurd (cc)
 in_cell_read k item (suc n) m j at = elim (at_parts (digit_reads k item n) (Read (Cell k n) (digit n item) ∷ []) m j at) [
   | inl (l, before) ↦ in_cell_read k item n m j before
-  | inr (i, e, last) ↦ in_one_read k n (digit n item) i j last
+  | inr (i, e, last) ↦ grind arith
 ]
 
 length-word : (shape : Shape) (n item : ℕ) → length (word_write (width_of shape) (n % capacity_of shape) item) ≡ width_of shape

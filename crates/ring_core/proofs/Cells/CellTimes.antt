@@ -154,9 +154,6 @@ pub words_to_cell :
 words_to_cell shape j n [] = refl
 words_to_cell shape j n (item ∷ items) = grind (arith, to_cell-append, word_to_cell, word_writes-append, words_to_cell shape j (suc n) items)
 
-part_to_cell : (shape : Shape) (j n : ℕ) (o : Outcome) → to_cell j (word_part P shape n o) ≡ word_writes (width_of shape) (items_here shape j n o)
-part_to_cell shape j n o = grind (arith, words_to_cell)
-
 -- a count write has no write to a cell
 pub no_cells-count : (shape : Shape) (c : Count) (o : Outcome) → NoCells (count_part P shape c o)
 no_cells-count shape c (Passes items) = no_cells-row _
@@ -168,7 +165,7 @@ pub look_to_cell :
     (shape : Shape) (j : ℕ) (c : Count) (l : Look) (rest : List Made) →
     to_cell j (scan_phrase (row_read_by P) l.seen ++ (word_part P shape c.number l.outcome ++ (count_part P shape c l.outcome ++ rest))) ≡
     word_writes (width_of shape) (items_here shape j c.number l.outcome) ++ to_cell j rest
-look_to_cell shape j c l rest = grind (arith, to_cell-append, none_to_cell, no_cells-scan, part_to_cell, no_cells-count)
+look_to_cell shape j c l rest = grind (arith, to_cell-append, none_to_cell, no_cells-scan, no_cells-count, words_to_cell)
 
 -- the writes of looks are those of their items' words
 pub looks_to_cell :

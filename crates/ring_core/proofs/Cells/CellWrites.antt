@@ -109,15 +109,9 @@ write_counts_at_end j [] a e w there is = absurd (cc)
 write_counts_at_end j (x ∷ h) zero e w there is = grind (arith, some_more)
 write_counts_at_end j (x ∷ h) (suc a) e w there is = grind (arith, write_counts_at_end j h a e w there is)
 
--- an act that begins a write to a digit of the cell
-cell_act :
-    (j d : ℕ) (v : Bool) (b : Bit) (a : Act) → begun_access b a ≡ Some (begins.Write (Cell j d) v) →
-    row_write (number_in_cell j b) a ≡ Some (record { bit = d; value = v })
-cell_act j d v b a e = grind (arith, own_number)
-
 module _ (h : List Event) (j d : ℕ) (v : Bool) (start stop : ℕ) (w : IsWrite h (Cell j d) v start stop) where
   is_cell_write : cell_write j w.event ≡ Some (record { bit = d; value = v })
-  is_cell_write = cell_act j d v w.event.bit w.event.act w.begins
+  is_cell_write = grind (arith, own_number)
 
   -- fewer writes to the cell began before a write of its digits than before each later place
   pub write_is_counted : (b : ℕ) → start < b → length (cell_writes j (take start h)) < length (cell_writes j (take b h))

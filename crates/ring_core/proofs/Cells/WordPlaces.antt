@@ -64,9 +64,6 @@ abbrev words_of : Side → Shape → ℕ → List ℕ → List Made
 words_of P shape n items = words_phrase shape n items
 words_of C shape n items = words_read shape n items
 
-words_nil : (s : Side) (shape : Shape) (n : ℕ) → words_of s shape n [] ≡ []
-words_nil s shape n = grind arith
-
 words_cons : (s : Side) (shape : Shape) (n item : ℕ) (items : List ℕ) →
     words_of s shape n (item ∷ items) ≡ word_of s (width_of shape) (n % capacity_of shape) item ++ words_of s shape (suc n) items
 words_cons s shape n item items = grind arith
@@ -88,7 +85,7 @@ item_there :
     (s : Side) (shape : Shape) (n : ℕ) (items : List ℕ) (more before rest : List Made) (cell : ℕ) (v : Bool) →
     words_of s shape n items ++ more ≡ before ++ digit_access s cell 0 v ∷ rest →
     ItemAt s shape n items before rest cell v ⊎ IsBehind (words_of s shape n items) more before (digit_access s cell 0 v) rest
-item_there s shape n [] more before rest cell v e = search (arith, words_nil)
+item_there s shape n [] more before rest cell v e = search arith
 item_there s shape n (item ∷ items) more [] rest cell v e =
     let w : ℕ = width_of shape in
     let j : ℕ = n % capacity_of shape in
@@ -128,15 +125,12 @@ item_there s shape n (item ∷ items) more (y ∷ before) rest cell v e =
 
 -- ---- accesses with which no word begins
 
-not_scan : (s : Side) (i : ℕ) (u : Bool) → IsFirst s (Read (row_read_by s i) u) → ⊥
-not_scan s i u h1 = grind arith
-
 none-zeros : (s : Side) (n : ℕ) → NoneAre (IsFirst s) (zero_reads (row_read_by s) n)
 none-zeros s zero = tt
-none-zeros s (suc n) = none-append (IsFirst s) (zero_reads (row_read_by s) n) (Read (row_read_by s n) false ∷ []) (none-zeros s n) (not_scan s n false, tt)
+none-zeros s (suc n) = none-append (IsFirst s) (zero_reads (row_read_by s) n) (Read (row_read_by s n) false ∷ []) (none-zeros s n) (grind arith)
 
 none-scan : (s : Side) (c : ℕ) → NoneAre (IsFirst s) (scan_phrase (row_read_by s) c)
-none-scan s c = none-append (IsFirst s) (zero_reads (row_read_by s) c) (Read (row_read_by s c) true ∷ []) (none-zeros s c) (not_scan s c true, tt)
+none-scan s c = none-append (IsFirst s) (zero_reads (row_read_by s) c) (Read (row_read_by s c) true ∷ []) (none-zeros s c) (grind arith)
 
 not_count : (s : Side) (i : ℕ) (u : Bool) → IsFirst s (Write (row_bit s i) u) → ⊥
 not_count s i u h1 = grind arith
@@ -153,11 +147,8 @@ none-count_part s shape c (Asks answer) = tt
 not_close : (s : Side) (u : Bool) → IsFirst s (Read X u) → ⊥
 not_close s u h1 = grind arith
 
-not_closing : (s : Side) (u : Bool) → IsFirst s (Write X u) → ⊥
-not_closing s u h1 = grind arith
-
 pub none-close : (s : Side) (closes : Bool) → NoneAre (IsFirst s) (close_phrase closes)
-none-close s closes = grind (arith, not_closing)
+none-close s closes = grind arith
 
 -- ---- the word of a look
 

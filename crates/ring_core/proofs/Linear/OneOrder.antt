@@ -9,7 +9,7 @@ use Rattle.std.proofs.lemmas.Bool.{false≢true}
 use Rattle.queue_calls.specs.Queue.{Queue, queue, exactly, Step, IsLegal}
 use Rattle.ring_core.specs.Linear.{TimedOperation, done_by, of_side, EndsBefore}
 use Rattle.ring_core.proofs.Readings.Cuts.{at_most_or_above}
-use Rattle.ring_core.proofs.Linear.Turns.{In, Kind, Moves, Misses, Ends, IsMove, IsMiss, IsEnd, Op, put_op, take_op, put_does, take_does, Tallies, PutFact, TakeFact, GoesTo, goes_to_itself, Needs, Must, May, NoMust, find_must, may}
+use Rattle.ring_core.proofs.Linear.Turns.{In, Kind, Moves, Misses, Ends, IsMove, IsMiss, IsEnd, Op, put_op, take_op, put_does, take_does, Tallies, PutFact, TakeFact, GoesTo, Needs, Must, May, NoMust, find_must, may, move_not_miss}
 
 -- the operations of each side
 abbrev pub put_ops : List Op → List TimedOperation
@@ -107,12 +107,6 @@ next_of last n (x ∷ xs) (e, r) l = by_kind x.kind refl r (λ m. next_of last m
     by_kind (Moves item) f r next = (x, inl refl, subst IsMove (sym f) tt, e)
     by_kind Misses f r next = let (x', i, s, g) = next n r l in (x', inr i, s, g)
     by_kind Ends f r next = let (x', i, s, g) = next n r l in (x', inr i, s, g)
-
-needs_enqueue : (capacity k n item : ℕ) (x : Kind) → IsMove x → n ≤ k → Needs capacity (Moves item) k x n
-needs_enqueue capacity k n item x s l = grind arith
-
-needs_full : (capacity k n item : ℕ) (x : Kind) → IsMiss x → n ≤ k + capacity → Needs capacity (Moves item) k x n
-needs_full capacity k n item x s l = grind arith
 
 module _ (h : List Event) (capacity events stored taken : ℕ) (puts_begun puts_ended takes_begun takes_ended : ℕ → ℕ)
     (tallies : Tallies h capacity puts_begun puts_ended takes_begun takes_ended)
@@ -252,7 +246,7 @@ module _ (h : List Event) (capacity events stored taken : ℕ) (puts_begun puts_
       NoMust h capacity xs (record { number = n; kind = kind; start = start; stop = stop; place = place }) →
       ((k' : ℕ) (items' : List ℕ) (closed' : Bool) → Stands k' items' closed' xs ys → Order items' closed' xs ys) →
       Order items closed xs (record { number = n; kind = kind; start = start; stop = stop; place = place } ∷ ys)
-  take_step n start stop place (Moves item) xs ys k [] closed r none next = grind (arith, takes_up, next_of, needs_enqueue)
+  take_step n start stop place (Moves item) xs ys k [] closed r none next = grind (arith, takes_up, next_of)
   take_step n start stop place (Moves item) xs ys k (e ∷ items) closed r none next =
       let y : Op = record { number = n; kind = Moves item; start = start; stop = stop; place = place } in
       let (rest, same) = r.same in
@@ -260,7 +254,7 @@ module _ (h : List Event) (capacity events stored taken : ℕ) (puts_begun puts_
       let others : items ++ items_by xs ≡ items_by ys ++ rest = cc in
       take_on y xs ys k (e ∷ items) items closed r none (ap (λ v. v ∷ items) first, refl) (omega (arith, r.fits)) (omega arith)
       (λ x i s. elim (at_most_or_above x.number (n + capacity)) [
-        | inl l ↦ absurd (none x i (inr (needs_full capacity n x.number item x.kind s l)))
+        | inl l ↦ absurd (none x i (inr (grind arith)))
         | inr l ↦ omega (arith, l, r.takes_numbered.0)
       ])
       (rest, others) (next (suc k) items closed)
@@ -291,11 +285,11 @@ module _ (h : List Event) (capacity events stored taken : ℕ) (puts_begun puts_
   ]
     where
       put_to : (x' : Op) → In x' (x ∷ xs) → GoesTo x x'
-      put_to x' (inl e) = subst (λ z. GoesTo x z) (sym e) (goes_to_itself x)
+      put_to x' (inl e) = subst (λ z. GoesTo x z) (sym e) (grind (arith, move_not_miss))
       put_to x' (inr i) = (r.puts_sorted.0 x' i).0
 
       take_to : (y' : Op) → In y' (y ∷ ys) → GoesTo y y'
-      take_to y' (inl e) = subst (λ z. GoesTo y z) (sym e) (goes_to_itself y)
+      take_to y' (inl e) = subst (λ z. GoesTo y z) (sym e) (grind (arith, move_not_miss))
       take_to y' (inr i) = (r.takes_sorted.0 y' i).0
 
       put_now : (x' : Op) → In x' (x ∷ xs) → Must h capacity x' y → Goes xs (y ∷ ys) → Order items closed (x ∷ xs) (y ∷ ys)

@@ -19,13 +19,14 @@ use Rattle.ring_core.proofs.Readings.Cuts.{at_most_or_above}
 use Rattle.ring_core.proofs.CountRow.{past_is}
 use Rattle.ring_core.proofs.OverSpans.Timeline.{AllProper, begun_at, begun_up, begun_all, ended_up, in_all}
 use Rattle.ring_core.proofs.OverSpans.CallSpans.{three, stands_at}
-use Rattle.ring_core.proofs.CallCounts.{ended_counts, lt-behind}
+use Rattle.ring_core.proofs.CallCounts.{ended_counts}
 use Rattle.ring_core.proofs.OwnEvents.{clock_rises}
 use Rattle.ring_core.proofs.Linear.Turns.{In, Misses, Ends, IsMove, Op, PutFact, move_not_miss, move_not_end}
 use Rattle.ring_core.proofs.Linear.OneOrder.{Numbered, items_by, IsClosedBy}
 use Rattle.ring_core.proofs.Linear.PutTurns.{if_yes, if_no, in_append, in_if, in_call, in_one, begun_past_count, begun_before_count, begun_of_none, begun_counts, put_turn, enqueue_turns, put_long, until_count, put_turns, put_turns-none, put_some, before_put_ends, move_of, move_so, moves_numbered}
 use Rattle.bits_core.proofs.LawLemmas.{subhistory_has_place}
 use Rattle.bits_core.proofs.OwnEvents.{by_case}
+use Rattle.std.proofs.lemmas.Bool.Decides.{nat_tests}
 
 -- the place of the side's own event i is the last one with a clock of at most i
 pub last_place : (s : Side) (h : List Event) (i place t : ℕ) → IsPlaceOf s h i place → clock s h t ≤ i → t ≤ place
@@ -76,24 +77,13 @@ enqueues_items : (n start stop : ℕ) (items : List ℕ) (xs : List Op) → item
 enqueues_items n start stop [] xs = refl
 enqueues_items n start stop (item ∷ items) xs = ap (λ l. item ∷ l) (enqueues_items (suc n) start stop items xs)
 
-join_items :
-    (test test' : Bool) (n start stop : ℕ) (items rest : List ℕ) (xs : List Op) → test ≡ test' → items_by xs ≡ rest →
-    items_by ((if test then enqueue_turns n start stop items else []) ++ xs) ≡ (if test' then items else []) ++ rest
-join_items test test' n start stop items rest xs e f = grind (arith, enqueues_items)
-
-full_items : (test : Bool) (n start stop : ℕ) (xs : List Op) → items_by ((if test then put_turn n Misses start stop ∷ [] else []) ++ xs) ≡ items_by xs
-full_items test n start stop xs = grind arith
-
-close_items : (test : Bool) (n start stop : ℕ) → items_by (if test then put_turn n Ends start stop ∷ [] else []) ≡ []
-close_items test n start stop = grind arith
-
 pub put_turns-items :
     (shape : Shape) (c : Count) (start : ℕ) (puts : List Put) (closes : Bool) (t : ℕ) →
     items_by (put_turns shape c start puts closes t) ≡ items_put shape c puts (t - start)
-put_turns-items shape c start [] closes t = grind (arith, close_items)
+put_turns-items shape c start [] closes t = grind arith
 put_turns-items shape c start (Stored seen items ∷ puts) closes t =
-    grind (arith, put_long, join_items, lt-behind, put_turns-items shape (stored_after shape c (Stored seen items)) (start + put_long shape c (Stored seen items)) puts closes t)
-put_turns-items shape c start (Full seen ∷ puts) closes t = search (arith, put_long, full_items, put_turns-items shape c (start + put_long shape c (Full seen)) puts closes t)
+    grind (arith, put_long, put_turns-items shape (stored_after shape c (Stored seen items)) (start + put_long shape c (Stored seen items)) puts closes t, enqueues_items, nat_tests)
+put_turns-items shape c start (Full seen ∷ puts) closes t = search (arith, put_long, put_turns-items shape c (start + put_long shape c (Full seen)) puts closes t)
 
 -- ---- the close
 

@@ -100,27 +100,21 @@ put_turns shape c start (Full seen ∷ puts) closes t =
 
 -- ---- they are those of the statement
 
-put_ops-if : (t : Bool) (xs : List Op) → put_ops (if t then xs else []) ≡ (if t then put_ops xs else [])
-put_ops-if t xs = grind arith
-
 enqueue_turns-ops : (n start stop : ℕ) (items : List ℕ) → put_ops (enqueue_turns n start stop items) ≡ operations P start stop (map Enqueue items)
 enqueue_turns-ops n start stop [] = refl
 enqueue_turns-ops n start stop (item ∷ items) = ap (λ l. put_op (put_turn n (Moves item) start stop) ∷ l) (enqueue_turns-ops (suc n) start stop items)
 
-one_test : (a n t : ℕ) → nat_lt (a + n) t ≡ nat_le (a + suc n) t
-one_test a n t = grind (arith, nat_tests)
-
 join_ops :
     (t t' : Bool) (xs ys : List Op) (os rest : List TimedOperation) → t ≡ t' → put_ops xs ≡ os → put_ops ys ≡ rest →
     put_ops ((if t then xs else []) ++ ys) ≡ (if t' then os else []) ++ rest
-join_ops t t' xs ys os rest e f g = grind (arith, map-append, put_ops-if)
+join_ops t t' xs ys os rest e f g = grind (arith, map-append)
 
 pub put_turns-ops :
     (shape : Shape) (c : Count) (start : ℕ) (puts : List Put) (closes : Bool) (t : ℕ) →
     put_ops (put_turns shape c start puts closes t) ≡ put_operations shape c start puts closes t
-put_turns-ops shape c start [] closes t = grind (arith, nat_tests, put_ops-if)
+put_turns-ops shape c start [] closes t = grind (arith, nat_tests)
 put_turns-ops shape c start (Stored seen items ∷ puts) closes t =
-    grind (arith, join_ops, one_test, enqueue_turns-ops, put_turns-ops shape (stored_after shape c (Stored seen items)) (start + put_long shape c (Stored seen items)) puts closes t)
+    grind (arith, join_ops, enqueue_turns-ops, put_turns-ops shape (stored_after shape c (Stored seen items)) (start + put_long shape c (Stored seen items)) puts closes t, nat_tests)
 put_turns-ops shape c start (Full seen ∷ puts) closes t = grind (arith, join_ops, put_turns-ops shape c (start + put_long shape c (Full seen)) puts closes t)
 
 -- ---- if nothing has begun there are none
@@ -211,12 +205,6 @@ put_turns-from shape c start (Full seen ∷ puts) closes t x i =
       | inr j ↦ from_later start stop c.number c.number x (omega arith) (omega arith) (put_turns-from shape c stop puts closes t x j)
     ]
 
-before_later : (place n start stop item : ℕ) (x : Op) → IsFrom stop (suc n) x → start ≤ stop → GoesTo (turn place n (Moves item) start stop) x
-before_later place n start stop item x r l = grind arith
-
-before_move : (place n start stop item : ℕ) (items : List ℕ) (x : Op) → In x (moves place (suc n) start stop items) → GoesTo (turn place n (Moves item) start stop) x
-before_move place n start stop item items x i = grind (arith, move_so place (suc n) start stop items x (move_of place (suc n) start stop items x i), move_not_miss)
-
 -- they precede each other, and what comes after them
 pub moves_sorted :
     (place n start stop : ℕ) (items : List ℕ) (xs : List Op) → start ≤ stop → ((x : Op) → In x xs → IsFrom stop (number_past n items) x) → Sorted xs →
@@ -225,8 +213,8 @@ moves_sorted place n start stop [] xs l from s = s
 moves_sorted place n start stop (item ∷ items) xs l from s = (
   (λ x i. (
     (elim (in_append x (moves place (suc n) start stop items) xs i) [
-      | inl j ↦ before_move place n start stop item items x j
-      | inr j ↦ grind (arith, before_later, past_is (suc n) items, from x j)
+      | inl j ↦ grind (arith, move_so place (suc n) start stop items x (move_of place (suc n) start stop items x j), move_not_miss)
+      | inr j ↦ grind (arith, past_is (suc n) items, from x j)
     ]),
     λ a. absurd a,
   )),

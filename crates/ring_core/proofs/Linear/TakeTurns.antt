@@ -60,21 +60,15 @@ dequeue_turns-ops : (h : List Event) (k start stop : ℕ) (items : List ℕ) →
 dequeue_turns-ops h k start stop [] = refl
 dequeue_turns-ops h k start stop (item ∷ items) = ap (λ l. take_op (take_turn h k (Moves item) start stop) ∷ l) (dequeue_turns-ops h (suc k) start stop items)
 
-turns_of-ops : (h : List Event) (k : ℕ) (x : Take) (start stop : ℕ) → take_ops (turns_of h k x start stop) ≡ operations C start stop (linear.take_does x)
-turns_of-ops h k x start stop = grind (arith, dequeue_turns-ops)
-
 join_ops : (test : Bool) (xs ys : List Op) (os rest : List TimedOperation) → take_ops xs ≡ os → take_ops ys ≡ rest →
     take_ops ((if test then xs else []) ++ ys) ≡ (if test then os else []) ++ rest
 join_ops test xs ys os rest e f = grind (arith, map-append)
 
-one_op : (test : Bool) (y : Op) → take_ops (if test then y ∷ [] else []) ≡ (if test then take_op y ∷ [] else [])
-one_op test y = grind arith
-
 pub take_turns-ops :
     (h : List Event) (shape : Shape) (c : Count) (start : ℕ) (takes : List Take) (end : End) (t : ℕ) →
     take_ops (take_turns h shape c start takes end t) ≡ take_operations shape c start takes end t
-take_turns-ops h shape c start [] end t = grind (arith, one_op)
-take_turns-ops h shape c start (x ∷ takes) end t = search (arith, join_ops, turns_of-ops, take_turns-ops h shape (count_after shape c x) (start + take_long shape c x) takes end t)
+take_turns-ops h shape c start [] end t = grind arith
+take_turns-ops h shape c start (x ∷ takes) end t = search (arith, join_ops, take_turns-ops h shape (count_after shape c x) (start + take_long shape c x) takes end t, dequeue_turns-ops)
 
 -- ---- if nothing has begun there are none
 
@@ -108,10 +102,6 @@ take_turns-none h shape c start (x ∷ takes) end t l =
 from_turn : (h : List Event) (k : ℕ) (x : Take) (start stop : ℕ) (y : Op) → start < stop → In y (turns_of h k x start stop) → IsFrom start k y
 from_turn h k x start stop y l i = grind (arith, from_move, move_of, from_here)
 
--- the number of items taken does not fall with a take
-taken_on : (k : ℕ) (x : Take) → k ≤ taken_after k x
-taken_on k x = grind (arith, past_is)
-
 pub take_turns-from :
     (h : List Event) (shape : Shape) (c : Count) (start : ℕ) (takes : List Take) (end : End) (t : ℕ) (y : Op) →
     In y (take_turns h shape c start takes end t) → IsFrom start c.number y
@@ -122,7 +112,7 @@ take_turns-from h shape c start (x ∷ takes) end t y i =
     let next : Count = count_after shape c x in
     elim (in_call y (nat_le (start + take_effect shape c x) t) (turns_of h c.number x start stop) (take_turns h shape next stop takes end t) i) [
       | inl (over, j) ↦ from_turn h c.number x start stop y (omega (arith, phrase_some shape c x)) j
-      | inr j ↦ grind (arith, taken_on, take_turns-from h shape next stop takes end t y j)
+      | inr j ↦ grind (arith, take_turns-from h shape next stop takes end t y j, past_is)
     ]
 
 turn_sorted :
@@ -143,18 +133,9 @@ take_turns-sorted h shape c start (x ∷ takes) end t =
 
 -- ---- their numbers
 
-counted_yes : (a b n m : ℕ) → a < b → (if nat_lt a b then n else 0) + m ≡ n + m
-counted_yes a b n m l = ap (λ (t : Bool). (if t then n else 0) + m) (lt-ltb a b l)
-
-counted_no : (a b n m : ℕ) → b ≤ a → (if nat_lt a b then n else 0) + m ≡ 0 + m
-counted_no a b n m l = ap (λ (t : Bool). (if t then n else 0) + m) (le-ltb a b l)
-
-counted_none : (t : Bool) (m : ℕ) → (if t then 0 else 0) + m ≡ m
-counted_none t m = grind arith
-
 none_taken : (shape : Shape) (c : Count) (takes : List Take) → taken_begun shape c takes 0 ≡ 0
 none_taken shape c [] = refl
-none_taken shape c (x ∷ takes) = grind (arith, counted_no, none_taken shape (count_after shape c x) takes)
+none_taken shape c (x ∷ takes) = grind (arith, none_taken shape (count_after shape c x) takes, le-ltb)
 
 -- after a take of items whose count write begins with its event number before
 items_numbered :
@@ -165,7 +146,7 @@ items_numbered :
     Numbered last c.number
     ((if nat_le (start + suc before) t then dequeue_turns h c.number start (start + long) items else []) ++ take_turns h shape next (start + long) takes end t)
 items_numbered h shape c next start takes end t last before long items within next_is e goes_on =
-    grind (arith, past_is, counted_yes, leb-true, if_yes, moves_numbered, leb-false, if_no, take_turns-none, counted_no, none_taken)
+    grind (arith, past_is, leb-true, if_yes, moves_numbered, leb-false, if_no, take_turns-none, none_taken, lt-ltb, le-ltb)
 
 pub take_turns-numbered :
     (h : List Event) (shape : Shape) (c : Count) (start : ℕ) (takes : List Take) (end : End) (t last : ℕ) →
@@ -183,7 +164,7 @@ take_turns-numbered h shape c start (ItemAfterClose seen again items ∷ takes) 
     (take_turns-numbered h shape (count_after shape c x) (start + take_long shape c x) takes end t last)
 take_turns-numbered h shape c start (Empty seen ∷ takes) end t last e =
     let x : Take = Empty seen in
-    grind (arith, counted_none, if_yes, if_no, take_turns-numbered h shape (count_after shape c x) (start + (take_long shape c x)) takes end t last (grind (arith, counted_none)))
+    grind (arith, if_yes, if_no, take_turns-numbered h shape (count_after shape c x) (start + (take_long shape c x)) takes end t last (grind arith))
 
 -- ---- their items
 

@@ -105,12 +105,6 @@ move_not_miss k a b = grind arith
 pub move_not_end : (k : Kind) → IsMove k → IsEnd k → ⊥
 move_not_end k a b = grind arith
 
-end_not_miss : (k : Kind) → IsEnd k → IsMiss k → ⊥
-end_not_miss k a b = grind arith
-
-pub goes_to_itself : (x : Op) → GoesTo x x
-goes_to_itself x = grind (arith, move_not_miss)
-
 -- What the queue needs: number k is dequeued after it is enqueued, and after each operation that finds the queue full and would
 -- find it not full without number k; the queue is found closed after all operations of the producer.
 abbrev pub Needs : ℕ → Kind → ℕ → Kind → ℕ → Type 0
@@ -167,7 +161,7 @@ module _ (h : List Event) (capacity events stored : ℕ) (puts_begun puts_ended 
       TakeFact h events stored puts_ended takes_begun takes_ended y → TakeFact h events stored puts_ended takes_begun takes_ended y' →
       GoesTo x x' → GoesTo y y' → (IsMove x.kind → x.number < stored) →
       (ky : Kind) (kx : Kind) → y.kind ≡ ky → x'.kind ≡ kx → Needs capacity ky y.number kx x'.number → May h capacity x y'
-  may_by_need x x' y y' px px' qy qy' xx yy below ky kx ey ex l = grind (arith, at_most_or_above, end_not_miss)
+  may_by_need x x' y y' px px' qy qy' xx yy below ky kx ey ex l = grind (arith, at_most_or_above)
 
   -- what precedes an operation that must precede y may precede each operation that does not precede y
   pub may :

@@ -13,7 +13,7 @@ use Rattle.ring_core.proofs.CountRow.{past_is}
 
 -- ---- the first of some items
 
-take_all : (xs : List ℕ) (m : ℕ) → length xs ≤ m → take m xs ≡ xs
+pub take_all : (xs : List ℕ) (m : ℕ) → length xs ≤ m → take m xs ≡ xs
 take_all [] zero l = refl
 take_all [] (suc m) l = refl
 take_all (x ∷ xs) zero l = absurd (omega (arith, l))
@@ -56,12 +56,6 @@ taken_at [] (suc q) i l = absurd (omega (arith, l))
 taken_at (x ∷ xs) zero i l = absurd (omega (arith, l))
 taken_at (x ∷ xs) (suc q) zero l = refl
 taken_at (x ∷ xs) (suc q) (suc i) l = taken_at xs q i (omega (arith, l))
-
--- what a scan lets a put store
-pub has_seen :
-    (shape : Shape) (items : List ℕ) (most n seen : ℕ) → seen < modulus_of shape → LeavesRoomFor shape (n % modulus_of shape) seen most →
-    (most ≡ length items) ⊎ (distance (modulus_of shape) (n % modulus_of shape) seen + most ≡ capacity_of shape) → HasSeen shape items most n seen
-has_seen shape items most n seen below room all = grind (arith, take_all)
 
 -- ---- words
 

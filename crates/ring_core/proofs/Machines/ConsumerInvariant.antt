@@ -23,11 +23,6 @@ at_stage p st is e = subst (λ s. ConsumerIsAt s p) e is.at
 abbrev AtScan : ConsumerState → Type 0
 AtScan p = IsCounted p.row p.count × IsTaking p × (p.items ≡ []) × IsScanning C (modulus_of p.shape) p.scan
 
-same_taking :
-    (p : ConsumerState) (st : Stage) (scan : ScanState) (word : ReaderState) (row : UnaryState) (items : List ℕ) (most : ℕ) → IsTaking p →
-    IsTaking (record p { stage = st; scan = scan; word = word; row = row; items = items; most = most })
-same_taking p st scan word row items most is = record { not_told = is.not_told; not_answered = is.not_answered; some = is.some; few = is.few }
-
 -- a consumer whose row is that of its side stays one if its stage's invariant holds
 stays_one :
     (p : ConsumerState) (st : Stage) (scan : ScanState) (word : ReaderState) (row : UnaryState) (items : List ℕ) (wanted most : ℕ) → IsConsumer p →
@@ -36,11 +31,11 @@ stays_one :
     IsConsumer (record p { stage = st; scan = scan; word = word; row = row; items = items; wanted = wanted; most = most })
 stays_one p st scan word row items wanted most is side modulus at = grind arith
 
-still_scans :
+pub still_scans :
     (p : ConsumerState) (st : Stage) (s : ScanState) (answer : Bool) → IsConsumer p → p.stage ≡ st → consumer_due_at st p ≡ due_scan p.scan → AtScan p →
     (AtScan (record p { stage = st; scan = s }) → ConsumerIsAt st (record p { stage = st; scan = s })) → (LastBitIsDue p.shape C (due_take p) → answer ≡ true) →
     s ≡ scan_read p.scan answer → s.found ≡ false → IsConsumer (record p { scan = s })
-still_scans p st s answer is e due (counted, taking, fresh, scans) at_scan one fed open_still = grind (arith, stays_one, same_taking, scanning)
+still_scans p st s answer is e due (counted, taking, fresh, scans) at_scan one fed open_still = grind (arith, stays_one, scanning)
 
 -- a first scan that continues
 pub scan_keeps :
@@ -48,22 +43,11 @@ pub scan_keeps :
     s ≡ scan_read p.scan answer → s.found ≡ false → IsConsumer (record p { scan = s })
 scan_keeps p s answer is e = still_scans p Scanning s answer is e refl (at_stage p Scanning is e) (λ at. at)
 
--- a second scan that continues
-pub rescan_keeps :
-    (p : ConsumerState) (s : ScanState) (answer : Bool) → IsConsumer p → p.stage ≡ Rescanning → (LastBitIsDue p.shape C (due_take p) → answer ≡ true) →
-    s ≡ scan_read p.scan answer → s.found ≡ false → IsConsumer (record p { scan = s })
-rescan_keeps p s answer is e = still_scans p Rescanning s answer is e refl (at_stage p Rescanning is e) (λ at. at)
-
--- the last of the items is kept
-pub kept_size :
-    (old : List ℕ) (item : ℕ) (items : List ℕ) (n most : ℕ) → items ≡ old ++ item ∷ [] → length old ≡ n → length old < most → most ≤ n + 1 → length items ≡ most
-kept_size old item items n most e len less last = grind (arith, length-append)
-
 -- the words have been read, and the write of the count begins
 pub word_keeps :
     (p : ConsumerState) (w : ReaderState) (row : UnaryState) (items : List ℕ) → IsConsumer p → p.stage ≡ Loading → length items ≡ p.most →
     row ≡ record p.row { value = (p.count + p.most) % modulus_of p.shape } → IsConsumer (record p { stage = Counting; word = w; row = row; items = items })
-word_keeps p w row items is e size begun = grind (arith, at_stage, stays_one, counting_on, take_batch_below, same_taking)
+word_keeps p w row items is e size begun = grind (arith, at_stage, stays_one, counting_on, take_batch_below)
 
 -- between words, the write that counts those read begins
 pub now_keeps :

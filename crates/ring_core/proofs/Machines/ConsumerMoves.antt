@@ -22,7 +22,7 @@ use Rattle.ring_core.specs.Takes.{Take, Takes, Empty, Open, count_after, words_r
 use Rattle.ring_core.specs.ConsumerState.{ConsumerState, IsBetweenWords, due_take, consumer_due_at, is_taking, takes_at}
 use Rattle.ring_core.specs.Items.{taken_of}
 use Rattle.ring_core.specs.ConsumerCalls.{ConsumerStands, ConsumerMadeAt, Finding, Finds, Once, Twice, finding_phrase, made_of_take, count_taken, values_taken, ConsumerHasMoved, ConsumerMoves, items_reply, take_reply_to, and_take, and_end, HasTakeMore, IsTakeOf, IsOpenForTake, ends_closed, IsAfterTake}
-use Rattle.ring_core.proofs.Machines.MachineParts.{GoesOn, ScanGoesOn, RowGoesOn, row_more, and_more, longer}
+use Rattle.ring_core.proofs.Machines.MachineParts.{GoesOn, ScanGoesOn, RowGoesOn, row_more, longer}
 use Rattle.ring_core.proofs.CountRow.{values_writes-push}
 use Rattle.ring_core.proofs.Readings.ByCalls.{takes_go_by_calls, state-push}
 use Rattle.ring_core.proofs.Machines.Batches.{far_from, past_so}
@@ -120,7 +120,7 @@ none_fit shape items e = subst (AllFit shape) (sym e) tt
 
 -- it continues
 pub scan_on : (p : ConsumerState) (s : ScanState) (answer : Bool) → p.stage ≡ Scanning → ScanGoesOn p.scan s answer → ConsumerMoves p answer (record p { scan = s })
-scan_on p s answer e goes calls made access stands due = grind (arith, made_at, take_stays, due_is, and_more, append_assoc, append-nil)
+scan_on p s answer e goes calls made access stands due = grind (arith, made_at, take_stays, due_is, append_assoc, append-nil)
 
 -- it shows an item
 pub scan_item :
@@ -157,14 +157,11 @@ scan_none p s answer seen e goes gives none calls made access stands due =
 
 -- ---- the close bit
 
-read_x : (access : Access) (answer v : Bool) → Some (begins.Read X) ≡ Some access → answer ≡ v → answered access answer ≡ Read X v
-read_x access answer v due e = grind arith
-
 -- it is 1, and the second scan begins
 pub check_one :
     (p : ConsumerState) (s : ScanState) (answer : Bool) → p.stage ≡ Checking → ScanStands s [] → answer ≡ true →
     ConsumerMoves p answer (at_stage p Rescanning s p.word p.row p.items p.most)
-check_one p s answer e scan_stands one calls made access stands due = grind (arith, made_at, read_x, due_is, take_goes_on, append_assoc, append-nil)
+check_one p s answer e scan_stands one calls made access stands due = grind (arith, made_at, due_is, take_goes_on, append_assoc, append-nil)
 
 -- it is 0, and the ring was empty
 pub check_zero :
@@ -175,7 +172,7 @@ check_zero p answer fresh e none calls made access stands due =
     let x : List Made = answered access answer ∷ [] in
     let front : List Made = take_phrases p.shape first_count calls.takes in
     let scan : List Made = scan_phrase (row_read_by C) seen in
-    let x_is : answered access answer ≡ Read X false = read_x access answer false (due_is Checking p access e due) none in
+    let x_is : answered access answer ≡ Read X false = grind arith in
     take_over p Checking (Empty seen) (Some replies.Empty) p.count p.cell p.scan p.word p.row calls made (made ++ x) e refl stands (sees, tt) refl fresh
     stands.count_is stands.cell_is
     (subst (λ l. UnaryStands p.row l (count_writes C l)) (sym (values-empty p.shape first_count calls.takes seen)) rests)

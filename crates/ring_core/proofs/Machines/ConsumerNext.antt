@@ -1,6 +1,6 @@
 -- The access that the consumer's machine has due is the next one of its take.
 use Rattle.std.proofs.Common.{◌≡◌, ◌⊎◌, inl, inr, ℕ, suc, ◌+◌, ◌-◌, ◌%◌, ◌<◌, ◌≤◌, Bool, true, false, IfSome, Option, Some, None, List, [], ◌∷◌, ◌++◌, length, refl, sym, ap, subst, ◌∙◌, arith, append_assoc, append-nil, length-append}
-use Rattle.std.proofs.Math.Nat.{mod-lt}
+use Rattle.std.proofs.Math.Nat.{mod-lt, mul-le-mul_right, suc-mul}
 use Rattle.std.proofs.lemmas.Bool.Decides.{nat_tests}
 use Rattle.bits_core.specs.declared.events.Side.TheVariants.{C}
 use Rattle.bits_core.specs.declared.events.Bit.TheVariants.{X, Cell}
@@ -25,7 +25,7 @@ use Rattle.ring_core.specs.Takes.{Take, Takes, Item, ItemAfterClose, Empty, Open
 use Rattle.ring_core.specs.ConsumerState.{ConsumerState, IsTaking, IsLoading, due_take, takes_at, is_taking}
 use Rattle.ring_core.specs.ConsumerCalls.{ConsumerStands, Finding, Twice, finding_phrase, Finds, made_of_take, count_taken, values_taken, and_take, and_end, BeginsTake, TakeGoesOn, TakesAll, IsTakeOf}
 use Rattle.ring_core.proofs.CountRow.{values_writes-push}
-use Rattle.ring_core.proofs.Machines.Lengths.{takes-are_short, ends-are_short, longest_up}
+use Rattle.ring_core.proofs.Machines.Lengths.{takes-are_short, ends-are_short}
 use Rattle.ring_core.proofs.Machines.MachineParts.{longer}
 use Rattle.ring_core.proofs.Readings.ByCalls.{takes_open}
 use Rattle.ring_core.proofs.Machines.Batches.{far_from}
@@ -150,27 +150,13 @@ begins_short shape wanted calls made y some (more, has, (rest, e)) =
           let is : IsTake shape n.number x = are-last shape first_count calls.takes x (subst (λ (m : Takes). AreTakes shape 0 m.takes m.end) more_is has.are) in
           let whole : (made ++ y ∷ []) ++ rest ≡ front ++ take_phrase shape n x = e ∙ ap (take_program shape) more_is ∙ program-push shape calls x in
           let last : List Made = take_phrase shape n x in
-          omega (
-            arith,
-            length-part made rest (front ++ last) y whole,
-            length-append front last,
-            takes-are_short shape n x (calls_are_count shape calls) is,
-            program,
-            longest_up shape (length (taken_of x)) wanted (takes_few shape n.number wanted x of),
-          )
+          grind (arith, length-part made rest (front ++ last) y whole, length-append front last, takes-are_short shape n x (calls_are_count shape calls) is, program, mul-le-mul_right, suc-mul)
       | inr (seen, again, more_is) ↦
           let sees : SeesNone shape n.number seen × SeesNone shape n.number again =
           end-sees_none shape first_count calls.takes seen again (subst (λ (m : Takes). AreTakes shape 0 m.takes m.end) more_is has.are) in
           let end : List Made = end_phrase (Closed seen again) in
           let whole : (made ++ y ∷ []) ++ rest ≡ front ++ end = e ∙ ap (take_program shape) more_is in
-          omega (
-            arith,
-            length-part made rest (front ++ end) y whole,
-            length-append front end,
-            ends-are_short shape n.number seen again sees.0 sees.1,
-            program,
-            longest_up shape 1 wanted some,
-          )
+          grind (arith, length-part made rest (front ++ end) y whole, length-append front end, ends-are_short shape n.number seen again sees.0 sees.1, program, mul-le-mul_right, suc-mul)
     ]
 
 -- ---- the stages

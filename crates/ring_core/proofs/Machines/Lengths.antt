@@ -32,10 +32,6 @@ length-word_write width cell item = length-map (digit_writes item width) (λ w. 
 pub length-word_read : (width cell item : ℕ) → length (word_read width cell item) ≡ width
 length-word_read width cell item = length-digit_reads cell item width
 
--- the bound of several items is no lower than that of one
-longest_least : (shape : Shape) (n : ℕ) → longest_take shape ≤ longest_taking shape (suc (suc n))
-longest_least shape n = grind (arith, suc-mul)
-
 -- ---- calls
 
 -- the words of items one after the other, each with a fixed number of accesses, whichever side makes them
@@ -108,10 +104,6 @@ takes-are_short shape c (Item seen items) is ((below, few, room), batch) =
     grind (arith, length-append (scan_phrase (row_read_by C) seen) (items_phrase shape c items), length-scan (row_read_by C) seen, items_short shape c items (suc seen) is batch.some (omega (arith, below)))
 takes-are_short shape c (ItemAfterClose seen again items) is ((below, none), (below', few, room), batch) = search (arith, length-append, length-two_scans, items_short)
 takes-are_short shape c (Empty seen) is (below, none) = grind (arith, length-append (scan_phrase (row_read_by C) seen) (Read X false ∷ []), length-scan (row_read_by C) seen)
-
--- the bound of more items is no lower
-pub longest_up : (shape : Shape) (m n : ℕ) → m ≤ n → longest_taking shape m ≤ longest_taking shape n
-longest_up shape m n l = grind (arith, longest_least, mul-le-mul_right)
 
 -- no take that returns Closed is longer than the bound
 pub ends-are_short : EndsAreShort

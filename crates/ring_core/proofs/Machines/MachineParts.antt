@@ -128,10 +128,6 @@ pub row_more :
     UnaryStands old values (front ++ writes) → due_unary old ≡ Some access → UnaryStands new values (front ++ (writes ++ answered access answer ∷ []))
 row_more old new answer values front writes access goes stands due = grind (arith, append_assoc)
 
--- one more access after a part of those made
-pub and_more : (made front part x : List Made) → made ≡ front ++ part → made ++ x ≡ front ++ (part ++ x)
-and_more made front part x e = ap (λ l. l ++ x) e ∙ append_assoc front part x
-
 -- a call under way, one more access
 pub longer : (front scan writes x : List Made) → (front ++ (scan ++ writes)) ++ x ≡ front ++ (scan ++ (writes ++ x))
 longer front scan writes x = append_assoc front (scan ++ writes) x ∙ ap (λ l. front ++ l) (append_assoc scan writes x)

@@ -59,24 +59,11 @@ pub has_given :
 has_given p s answer value seen e is fed some values =
     grind (arith, at_stage p Scanning is e, gives p.shape P p.scan s answer value seen ((at_stage p Scanning is e).4) fed.state some values)
 
--- a word being written
-stores_so :
-    (p : ProducerState) (w : WriterState) (index : ℕ) → IsProducer p → p.stage ≡ Storing → IsPutting (record p { stage = Storing; word = w; index = index }) → index < p.most →
-    w.written < w.width → IsProducer (record p { word = w; index = index })
-stores_so p w index is e putting less more = grind (arith, at_stage, stays_one)
-
--- the next word
-pub next_keeps :
-    (p : ProducerState) (w : WriterState) (cell item : ℕ) → IsProducer p → p.stage ≡ Storing → suc p.index < p.most →
-    cell ≡ (p.cell + suc p.index) % capacity_of p.shape → slice_get p.items (suc p.index) ≡ Some item →
-    w ≡ record { width = width_of p.shape; cell = cell; item = item; written = 0 } → IsProducer (record p { word = w; index = suc p.index })
-next_keeps p w cell item is e more cell_is item_is w_is = grind (arith, at_stage, stores_so)
-
 pub next_so :
     (p : ProducerState) (w : WriterState) (cell item i : ℕ) → i ≡ suc p.index → IsProducer p → p.stage ≡ Storing → i < p.most →
     cell ≡ (p.cell + i) % capacity_of p.shape → slice_get p.items i ≡ Some item →
     w ≡ record { width = width_of p.shape; cell = cell; item = item; written = 0 } → IsProducer (record p { word = w; index = i })
-next_so p w cell item i so is e more cell_is item_is w_is = grind (arith, next_keeps)
+next_so p w cell item i so is e more cell_is item_is w_is = grind (arith, at_stage, stays_one)
 
 -- the words are written
 pub word_keeps :

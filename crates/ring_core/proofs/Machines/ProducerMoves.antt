@@ -24,8 +24,8 @@ use Rattle.ring_core.specs.Puts.{Puts, Stored, Full, number_after, words_phrase,
 use Rattle.ring_core.specs.Puts as puts
 use Rattle.ring_core.specs.ProducerState.{ProducerState, Call, Put, Close, call_of, call_at, due_put, producer_due_at}
 use Rattle.ring_core.specs.ProducerCalls.{count_of, values_of, ProducerStands, ProducerMadeAt, ProducerHasMoved, ProducerMoves, IsPutOf, put_reply_to, and_put, and_close, HasCallMore, IsOpenForCall, closes_with, IsAfterCall}
-use Rattle.ring_core.proofs.Machines.MachineParts.{GoesOn, ScanGoesOn, RowGoesOn, row_more, and_more, longer}
-use Rattle.ring_core.proofs.Machines.Batches.{taken_so, taken_batch, has_seen, words-take, far_from, past_so}
+use Rattle.ring_core.proofs.Machines.MachineParts.{GoesOn, ScanGoesOn, RowGoesOn, row_more, longer}
+use Rattle.ring_core.proofs.Machines.Batches.{taken_so, taken_batch, words-take, far_from, past_so, take_all}
 use Rattle.ring_core.proofs.Machines.PutCalls.{stored-push, are-push, reply-push, program-push, values_hold, values-push, values-full}
 use Rattle.ring_core.proofs.CountRow.{values_writes-push}
 
@@ -73,9 +73,6 @@ put_stays p st scan word row index calls made more e puts stands made_is = grind
 put_open : (p : ProducerState) (calls : Puts) (items : List ℕ) → IsOpenForCall (call_of p) calls → call_of p ≡ Some (Put items) → calls.closes ≡ false
 put_open p calls items o was = subst (λ c. IsOpenForCall c calls) was o
 
-put_closed : (p : ProducerState) (calls : Puts) (items : List ℕ) → p.closed ≡ closes_with calls (call_of p) → call_of p ≡ Some (Put items) → p.closed ≡ false
-put_closed p calls items c was = c ∙ ap (closes_with calls) was
-
 -- the state of a producer that has ended a put
 abbrev pub ended_put : ProducerState → puts.Put → ℕ → ℕ → ScanState → WriterState → UnaryState → ProducerState
 ended_put p x count cell scan word row = record p { count = count; cell = cell; stage = Idle; scan = scan; word = word; row = row; reply = Some (put_reply_to x) }
@@ -97,7 +94,7 @@ put_over p st x count cell scan word row calls made more e before stands of_item
         are = are;
         count_is = count_is ∙ sym (ap (λ k. k % modulus_of p.shape) n);
         cell_is = cell_is ∙ sym (ap (λ k. k % capacity_of p.shape) n);
-        closed_is = put_closed p calls p.items stands.closed_is was;
+        closed_is = stands.closed_is ∙ ap (closes_with calls) was;
         not_over = tt;
         reply_is = sym (reply-push None calls.puts x);
         made_is = (rests, made_is ∙ sym (program-push p.shape calls x));
@@ -109,7 +106,7 @@ put_over p st x count cell scan word row calls made more e before stands of_item
 -- ---- the scan
 
 pub scan_on : (p : ProducerState) (s : ScanState) (answer : Bool) → p.stage ≡ Scanning → ScanGoesOn p.scan s answer → ProducerMoves p answer (record p { scan = s })
-scan_on p s answer e goes calls made access stands due = grind (arith, made_at, put_stays, due_is, and_more, append_assoc, append-nil)
+scan_on p s answer e goes calls made access stands due = grind (arith, made_at, put_stays, due_is, append_assoc, append-nil)
 
 no_writes : (w : WriterState) → w.written ≡ 0 → WriterStands w []
 no_writes w e = sym (ap (λ n. writes_in (Cell w.cell) (digit_writes w.item n)) e)
@@ -124,7 +121,7 @@ scan_room p s answer seen most e goes fresh start gives room all calls made acce
     let x : List Made = answered access answer ∷ [] in
     let n : ℕ = (count_of p.shape calls).number in
     let (below, reads_are) = gives (reads ++ x) (goes reads access scans (due_is Scanning p access e due)) in
-    grind (arith, put_goes_on, has_seen, no_writes, append_assoc, append-nil)
+    grind (arith, put_goes_on, no_writes, append_assoc, append-nil, take_all)
 
 pub scan_full :
     (p : ProducerState) (s : ScanState) (answer : Bool) (seen : ℕ) → p.stage ≡ Scanning → ScanGoesOn p.scan s answer →
@@ -265,8 +262,5 @@ close_over p answer e none calls made access stands due =
 
 -- ---- which kind of put was last
 
-batched_at : (st : Stage) (p : ProducerState) (b : Bool) (calls : Puts) (made : List Made) → ProducerMadeAt st p calls made → ProducerMadeAt st (record p { batched = b }) calls made
-batched_at st p b calls made is = grind arith
-
 pub batched_stands : (p : ProducerState) (b : Bool) (calls : Puts) (made : List Made) → ProducerStands p calls made → ProducerStands (record p { batched = b }) calls made
-batched_stands p b calls made stands = grind (arith, batched_at)
+batched_stands p b calls made stands = grind arith

@@ -91,9 +91,6 @@ abbrev pub put_outcome : Put → Outcome
 put_outcome (Stored seen items) = Passes items
 put_outcome (Full seen) = Stops
 
-pub put_size : (x : Put) → counts (put_outcome x) ≡ length (put_items x)
-put_size x = grind arith
-
 first_stands : (y : Span) (ys : List Span) → IsSpanAt (y ∷ ys) 0 0 y
 first_stands y ys = inl (refl, refl, refl)
 

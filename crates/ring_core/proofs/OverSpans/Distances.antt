@@ -11,10 +11,6 @@ distance_up modulus a r l = grind (arith, mod-add-div a modulus, mod-add-mod (a 
 pub distance_of : (modulus a n : ℕ) → a ≤ n → n < a + modulus → distance modulus (n % modulus) (a % modulus) ≡ n - a
 distance_of modulus a n l m = grind (arith, distance_up modulus a (n - a) (omega arith))
 
--- the distance of a number from one above it
-pub distance_back : (modulus a n : ℕ) → n < a → a ≤ n + modulus → distance modulus (n % modulus) (a % modulus) ≡ n + modulus - a
-distance_back modulus a n l m = grind (arith, add-mod_right n modulus, distance_of modulus a (n + modulus) (omega arith) (omega arith))
-
 -- numbers that are not equal, and less than the modulus apart, differ modulo it
 pub apart : (modulus k n : ℕ) → k < n → n < k + modulus → n % modulus ≡ k % modulus → ⊥
 apart modulus k n l m e = grind (arith, distance_of)

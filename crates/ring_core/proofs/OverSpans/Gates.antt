@@ -5,7 +5,8 @@ use Rattle.ring_core.proofs.OverSpans.Spans.{Span, counts, counts_begun, counts_
 use Rattle.ring_core.proofs.OverSpans.Clocks.{Clocks, IsPlace, AreRegular, Ring}
 use Rattle.ring_core.proofs.Readings.Cuts.{at_most_or_above}
 use Rattle.ring_core.proofs.OverSpans.Timeline.{Proper, AllProper, before-whole, begun_zero, ended_begun, begun_at, begun_step, begun_up}
-use Rattle.ring_core.proofs.OverSpans.Distances.{distance_of, distance_back}
+use Rattle.ring_core.proofs.OverSpans.Distances.{distance_of}
+use Rattle.std.proofs.Math.Nat.{add-mod_right}
 
 -- a clock that begins at 0 and advances by at most one
 pub record Clock (p : ℕ → ℕ) : Type 0 where
@@ -188,7 +189,7 @@ module _ (modulus capacity batch more word : ℕ) (p c : ℕ → ℕ) (puts take
       rw r.value at ((ring.takes_rule s k x st).item o) in
       elim (at_most_or_above k r.number) [
         | inl l ↦ omega (arith, rule, distance_of modulus k r.number l (omega (arith, r.high)))
-        | inr l ↦ absurd (omega (arith, rule, distance_back modulus k r.number l (omega (arith, r.low)), r.low))
+        | inr l ↦ absurd (grind (arith, rule, r.low, add-mod_right r.number modulus, distance_of modulus k (r.number + modulus) (omega arith) (omega arith)))
       ]
 
   -- a take that takes none has read one that shows none

@@ -21,7 +21,8 @@ use Rattle.ring_core.proofs.OverSpans.SpanLaw.{LastTwo, two_last, two_after}
 use Rattle.ring_core.proofs.CountRow.{past_is, first_is_count, counted_is_count, batch_below, take_batch_below, batch_long}
 use Rattle.ring_core.proofs.Machines.Lengths.{length-scan, length-words, length-words_read}
 use Rattle.ring_core.proofs.Readings.PutsRead.{puts_stored, puts_full}
-use Rattle.ring_core.proofs.Readings.TakesFirst.{item_first, after_first, empty_first, closed_first}
+use Rattle.ring_core.proofs.Readings.TakesFirst.{closed_first}
+use Rattle.ring_core.proofs.Readings.Phrases.{joined_two, joined}
 
 -- ---- the accesses of the calls are those of their looks
 
@@ -33,22 +34,16 @@ puts_as_looks shape c [] closes = refl
 puts_as_looks shape c (Stored seen items ∷ puts) closes = grind (arith, puts_stored, puts_as_looks shape (stored_after shape c (Stored seen items)) puts closes)
 puts_as_looks shape c (Full seen ∷ puts) closes = grind (arith, puts_full, puts_as_looks shape c puts closes)
 
--- items' words and the count, and what follows them
-items_joined :
-    (shape : Shape) (c : Count) (items : List ℕ) (left right : List Made) → left ≡ right →
-    items_phrase shape c items ++ left ≡ words_read shape c.number items ++ (batch_phrase shape C c items ++ right)
-items_joined shape c items left right e = grind (arith, append_assoc)
-
 -- the accesses of takes and of their end
 pub takes_as_looks :
     (shape : Shape) (c : Count) (takes : List Take) (end : End) →
     take_phrases shape c takes ++ end_phrase end ≡ look_accesses C shape c (take_looks takes end) []
 takes_as_looks shape c [] Open = refl
 takes_as_looks shape c [] (Closed seen again) = closed_first shape c seen again
-takes_as_looks shape c (Item seen items ∷ takes) end = search (arith, item_first, items_joined, takes_as_looks shape (count_after shape c (Item seen items)) takes end)
+takes_as_looks shape c (Item seen items ∷ takes) end = search (arith, takes_as_looks shape (count_after shape c (Item seen items)) takes end, append_assoc, joined)
 takes_as_looks shape c (ItemAfterClose seen again items ∷ takes) end =
-    grind (arith, after_first, items_joined, takes_as_looks shape (count_after shape c (ItemAfterClose seen again items)) takes end)
-takes_as_looks shape c (Empty seen ∷ takes) end = grind (arith, empty_first, takes_as_looks shape c takes end)
+    grind (arith, takes_as_looks shape (count_after shape c (ItemAfterClose seen again items)) takes end, joined_two, append_assoc)
+takes_as_looks shape c (Empty seen ∷ takes) end = grind (arith, takes_as_looks shape c takes end, joined)
 
 -- ---- what looks count
 
@@ -105,14 +100,10 @@ proper_puts shape puts are = all_proper (batch_of shape) P shape first_count (pu
 pub proper_takes : (shape : Shape) (takes : Takes) → AreTakes shape 0 takes.takes takes.end → AllProper (take_batch_of shape) (take_spans shape takes)
 proper_takes shape takes are = grind (arith, all_proper, take_looks, take_batch_below, first_is_count, takes_pass)
 
--- the parts of a look, and what follows them, in length
-length_parts : (a b d after : List Made) → length (a ++ (b ++ (d ++ after))) ≡ length a + length b + length d + length after
-length_parts a b d after = omega (arith, length-append a (b ++ (d ++ after)), length-append b (d ++ after), length-append d after)
-
 -- the spans have two events for each access
 pub total_is : (s : Side) (shape : Shape) (c : Count) (looks : List Look) → total (spans s shape c looks) ≡ 2 * length (look_accesses s shape c looks [])
 total_is s shape c [] = refl
-total_is s shape c (l ∷ looks) = grind (arith, length_parts, total_is s shape (after_look shape c l.outcome) looks)
+total_is s shape c (l ∷ looks) = grind (arith, total_is s shape (after_look shape c l.outcome) looks, length-append)
 
 -- ---- the position of a span
 
@@ -128,7 +119,7 @@ first_look s shape c l after start x zero_is e = grind arith
 -- a look after other accesses
 later_look : (s : Side) (shape : Shape) (a b d program : List Made) (k start rest : ℕ) (x : Span) →
     start ≡ 2 * length a + 2 * length b + 2 * length d + rest → LookAt s shape program k rest x → LookAt s shape (a ++ (b ++ (d ++ program))) k start x
-later_look s shape a b d program k start rest x e r = grind (arith, append_assoc, length_parts a b d r.before)
+later_look s shape a b d program k start rest x e r = grind (arith, append_assoc, length-append a (b ++ (d ++ r.before)), length-append b (d ++ r.before), length-append d r.before)
 
 -- at the position of a span is its look
 pub look_at :
@@ -161,16 +152,13 @@ words_are s shape looks start m x st e =
     let r : LookAt s shape (look_accesses s shape first_count looks []) m start x = look_from_first s shape looks [] start m x st in
     grind (arith, word_length)
 
-asks_length : (s : Side) (shape : Shape) (n : ℕ) (o : Outcome) (answer : Bool) → o ≡ Asks answer → length (word_part s shape n o) ≡ 1
-asks_length s shape n o answer e = grind arith
-
 -- a read of the close bit has two events
 pub asks_word :
     (s : Side) (shape : Shape) (looks : List Look) (start m : ℕ) (x : Span) (answer : Bool) →
     IsSpanAt (spans s shape first_count looks) start m x → x.outcome ≡ Asks answer → x.word ≡ 2
 asks_word s shape looks start m x answer st e =
     let r : LookAt s shape (look_accesses s shape first_count looks []) m start x = look_from_first s shape looks [] start m x st in
-    grind (arith, asks_length)
+    grind arith
 
 -- ---- the items
 
@@ -190,10 +178,6 @@ puts_items shape c (Stored seen items ∷ puts) t =
     let b : List Made = words_phrase shape c.number items in
     grind (arith, length-append, same_items, puts_items shape (stored_after shape c (Stored seen items)) puts (t - (2 * length a + 2 * length b + 2 * length (batch_phrase shape P c items))))
 puts_items shape c (Full seen ∷ puts) t = grind (arith, no_items, puts_items shape c puts (t - (2 * length (scan_phrase (row_read_by P) seen) + 0 + 0)))
-
--- two phrases have ended if the second has, after the first
-two_ended : (a b t : ℕ) → 0 < b → nat_le (a + b) t ≡ nat_le b (t - a)
-two_ended a b t some = grind (arith, nat_tests)
 
 -- the items taken are those of the spans that have ended
 pub takes_items :
@@ -216,7 +200,7 @@ takes_items shape c (ItemAfterClose seen again items ∷ takes) end t =
     let phrase : List Made = a ++ Read X true ∷ a' ++ (b ++ d) in
     let number_past : 2 * length phrase ≡ whole x + whole z = grind (arith, length-append) in
     let some : 0 < whole z = omega (arith, length-scan (row_read_by C) again) in
-    grind (arith, same_items, two_ended, no_items, take_looks, takes_items shape next takes end (t - whole x - whole z))
+    grind (arith, same_items, no_items, take_looks, takes_items shape next takes end (t - whole x - whole z), nat_tests)
 takes_items shape c (Empty seen ∷ takes) end t =
     grind (arith, length-append, no_items, take_looks, takes_items shape c takes end (t - whole (span_of C shape c (look seen (Asks false)))))
 
@@ -240,12 +224,6 @@ pub record FitsShape (shape : Shape) (seen : ℕ) (o : Outcome) : Type 0 where
   pub below : seen < modulus_of shape
   pub items : AllFit shape (items_of o)
 
-passes_fits : (shape : Shape) (seen : ℕ) (items : List ℕ) → seen < modulus_of shape → AllFit shape items → FitsShape shape seen (Passes items)
-passes_fits shape seen items below fits = record { below = below; items = fits }
-
-stops_fits : (shape : Shape) (seen : ℕ) → seen < modulus_of shape → FitsShape shape seen Stops
-stops_fits shape seen below = record { below = below; items = tt }
-
 asks_fits : (shape : Shape) (seen : ℕ) (answer : Bool) → seen < modulus_of shape → FitsShape shape seen (Asks answer)
 asks_fits shape seen answer below = record { below = below; items = tt }
 
@@ -265,10 +243,6 @@ TakeRule shape k seen o =
     (counts o ≡ 0 →
     (distance (modulus_of shape) seen (k % modulus_of shape) ≡ 0) ⊎ (capacity_of shape < distance (modulus_of shape) seen (k % modulus_of shape)))
 
--- a number that is not below another is at least it
-not_below : (a b : ℕ) → ¬ (a < b) → b ≤ a
-not_below a b h = elim (at_most_or_above b a) [ inl l ↦ l | inr l ↦ absurd (h l) ]
-
 -- a distance that shows no item is 0 or above the capacity
 not_shown : (capacity d : ℕ) → ¬ ((0 < d) × (d ≤ capacity)) → (d ≡ 0) ⊎ (capacity < d)
 not_shown capacity d h = grind (arith, at_most_or_above)
@@ -276,36 +250,24 @@ not_shown capacity d h = grind (arith, at_most_or_above)
 puts_keep : (shape : Shape) (n : ℕ) (puts : List Put) → ArePuts shape n puts → EachLook (PutRule shape) n (put_looks puts)
 puts_keep shape n [] h = tt
 puts_keep shape n (Stored seen items ∷ puts) ((below, room, batch), h) = grind (arith, puts_keep shape (number_past n items) puts h)
-puts_keep shape n (Full seen ∷ puts) ((below, full), h) = grind (arith, stops_fits, not_below, puts_keep shape n puts h)
+puts_keep shape n (Full seen ∷ puts) ((below, full), h) = grind (arith, puts_keep shape n puts h, at_most_or_above)
 
 takes_keep : (shape : Shape) (k : ℕ) (takes : List Take) (end : End) → AreTakes shape k takes end → EachLook (TakeRule shape) k (take_looks takes end)
-takes_keep shape k [] end h = grind (arith, asks_fits, not_shown, stops_fits)
-takes_keep shape k (Item seen items ∷ takes) end (((below, few, room), batch), h) = grind (arith, passes_fits, takes_keep shape (number_past k items) takes end h)
+takes_keep shape k [] end h = grind (arith, asks_fits, not_shown)
+takes_keep shape k (Item seen items ∷ takes) end (((below, few, room), batch), h) = grind (arith, takes_keep shape (number_past k items) takes end h)
 takes_keep shape k (ItemAfterClose seen again items ∷ takes) end (((below, none), (below', few, room), batch), h) =
-    grind (arith, asks_fits, not_shown, passes_fits, takes_keep shape (number_past k items) takes end h)
+    grind (arith, asks_fits, not_shown, takes_keep shape (number_past k items) takes end h)
 takes_keep shape k (Empty seen ∷ takes) end ((below, none), h) = grind (arith, asks_fits, not_shown, takes_keep shape k takes end h)
 
-put_rule :
+pub put_rule :
     (shape : Shape) (c : Count) (puts : List Put) → ArePuts shape c.number puts →
     (start m : ℕ) (x : Span) → IsSpanAt (spans P shape c (put_looks puts)) start m x → PutRule shape (c.number + m) x.seen x.outcome
 put_rule shape c puts h = each_at (PutRule shape) P shape c (put_looks puts) (puts_keep shape c.number puts h)
 
-take_rule :
+pub take_rule :
     (shape : Shape) (c : Count) (takes : List Take) (end : End) → AreTakes shape c.number takes end →
     (start m : ℕ) (x : Span) → IsSpanAt (spans C shape c (take_looks takes end)) start m x → TakeRule shape (c.number + m) x.seen x.outcome
 take_rule shape c takes end h = each_at (TakeRule shape) C shape c (take_looks takes end) (takes_keep shape c.number takes end h)
-
--- each put keeps the rule of puts
-pub put_rules :
-    (shape : Shape) (c : Count) (puts : List Put) → ArePuts shape c.number puts →
-    (start m : ℕ) (x : Span) → IsSpanAt (spans P shape c (put_looks puts)) start m x → clocks.IsPutSpan (modulus_of shape) (capacity_of shape) (c.number + m) x
-put_rules shape c puts h start m x st = grind (arith, put_rule)
-
--- each take keeps the rule of takes
-pub take_rules :
-    (shape : Shape) (c : Count) (takes : List Take) (end : End) → AreTakes shape c.number takes end →
-    (start m : ℕ) (x : Span) → IsSpanAt (spans C shape c (take_looks takes end)) start m x → clocks.IsTakeSpan (modulus_of shape) (capacity_of shape) (c.number + m) x
-take_rules shape c takes end h start m x st = grind (arith, take_rule)
 
 -- the count that a put reads is below the modulus, and its items fit
 pub put_fits :

@@ -22,7 +22,7 @@ use Rattle.ring_core.proofs.OverSpans.LookSpans.{Look, put_looks, take_looks, lo
 use Rattle.ring_core.proofs.Machines.Lengths.{length-scan}
 use Rattle.ring_core.proofs.OverSpans.Looks.{look_from_first, puts_as_looks, takes_as_looks, AllPassing, puts_pass, takes_pass}
 use Rattle.ring_core.proofs.CountRow.{batch_below, take_batch_below}
-use Rattle.ring_core.proofs.CountTimes.{bit_writes, IsQuiet, quiet_close, sizes_in, sizes_are, tally_up, counted_in, counted_value, count_writes_begun, count_writes_ended, count_writes_are}
+use Rattle.ring_core.proofs.CountTimes.{bit_writes, IsQuiet, quiet_close, sizes_in, sizes_are, tally_up, counted_in, counted_value, count_writes_begun, count_writes_ended, program_writes}
 use Rattle.ring_core.proofs.OwnEvents.{clock_within, one_place, count_begun_own, count_begun_before, count_ended_before}
 use Rattle.register_core.proofs.LawLemmas.{reads_are_made_scans, unary_is_regular}
 
@@ -38,7 +38,7 @@ module _
     (follows : IsPrefix (subhistory w h) (events_of w (look_accesses w shape first_count looks behind))) where
   -- the writes to its count are those of unary writes of its counts
   pub writes_unary : IsQuiet w behind → WritesUnary w h (counted_in shape looks)
-  writes_unary quiet = grind (arith, count_begun_own shape w h lawful, filter_map-append (count_write w) (subhistory w h) follows.0, count_writes_are w shape looks behind quiet)
+  writes_unary quiet = grind (arith, count_begun_own shape w h lawful, filter_map-append (count_write w) (subhistory w h) follows.0, program_writes)
 
   abbrev events : List Event
   events = events_of w (look_accesses w shape first_count looks behind)

@@ -24,10 +24,6 @@ before-whole most x h = omega (arith, h.scan)
 pub before-count : (most : ℕ) (x : Span) → Proper most x → 1 ≤ counts x.outcome → suc (before_count x) ≤ whole x
 before-count most x h o = omega (arith, h.count o)
 
--- a span with no event in its count write counts nothing
-no-count : (most : ℕ) (x : Span) → Proper most x → whole x ≤ before_count x → counts x.outcome ≡ 0
-no-count most x h l = grind (arith, at_most_or_above, before-count)
-
 -- it counts its items
 pub counts-items : (o : Outcome) → counts o ≡ length (items_of o)
 counts-items o = grind arith
@@ -43,12 +39,6 @@ lt_true a b c h = grind (arith, nat_tests)
 
 lt_false : (a b c : ℕ) → b ≤ a → (if nat_lt a b then c else 0) ≡ 0
 lt_false a b c h = grind (arith, nat_tests)
-
-le_true : (a b c : ℕ) → a ≤ b → (if nat_le a b then c else 0) ≡ c
-le_true a b c h = grind (arith, nat_tests)
-
-le_false : (a b c : ℕ) → b < a → (if nat_le a b then c else 0) ≡ 0
-le_false a b c h = grind (arith, nat_tests)
 
 -- the count writes of the first span, and those past it
 begun_cons :
@@ -69,7 +59,7 @@ begun_zero (y ∷ ys) = omega (arith, begun_cons y ys 0 0 0 (omega arith) (lt_fa
 -- and none has ended
 pub ended_zero : (most : ℕ) (xs : List Span) → AllProper most xs → counts_ended xs 0 ≡ 0
 ended_zero most [] h = refl
-ended_zero most (y ∷ ys) h = grind (arith, before-whole, ended_cons, le_false, ended_zero most ys h.1)
+ended_zero most (y ∷ ys) h = grind (arith, before-whole, ended_cons, ended_zero most ys h.1, nat_tests)
 
 -- before the count write of the first span, during it, and after the span
 begun_first : (most : ℕ) (y : Span) (ys : List Span) (i : ℕ) → Proper most y → i ≤ before_count y → counts_begun (y ∷ ys) i ≡ 0
@@ -79,14 +69,14 @@ begun_middle : (y : Span) (ys : List Span) (i : ℕ) → before_count y < i → 
 begun_middle y ys i l m = grind (arith, begun_cons, lt_true, begun_zero)
 
 begun_past : (most : ℕ) (y : Span) (ys : List Span) (i j : ℕ) → Proper most y → i ≡ whole y + j → counts_begun (y ∷ ys) i ≡ counts y.outcome + counts_begun ys j
-begun_past most y ys i j h e = grind (arith, at_most_or_above, before-whole, no-count, begun_cons, lt_false, lt_true)
+begun_past most y ys i j h e = grind (arith, at_most_or_above, before-whole, begun_cons, lt_false, lt_true, before-count)
 
 -- before the end of the first span, and after it
 ended_first : (most : ℕ) (y : Span) (ys : List Span) (i : ℕ) → AllProper most ys → i < whole y → counts_ended (y ∷ ys) i ≡ 0
-ended_first most y ys i h l = grind (arith, ended_cons, le_false, ended_zero)
+ended_first most y ys i h l = grind (arith, ended_cons, ended_zero, nat_tests)
 
 pub ended_past : (y : Span) (ys : List Span) (i j : ℕ) → i ≡ whole y + j → counts_ended (y ∷ ys) i ≡ counts y.outcome + counts_ended ys j
-ended_past y ys i j e = ended_cons y ys i j (counts y.outcome) (omega arith) (le_true (whole y) i (counts y.outcome) (omega arith))
+ended_past y ys i j e = ended_cons y ys i j (counts y.outcome) (omega arith) (grind (arith, nat_tests))
 
 -- at each moment at most the last count write that has begun is open
 pub ended_begun : (most : ℕ) (xs : List Span) → AllProper most xs → (i : ℕ) → (counts_ended xs i ≤ counts_begun xs i) × (counts_begun xs i ≤ counts_ended xs i + most)
@@ -289,7 +279,7 @@ ended_find most (y ∷ ys) h i k l = elim (at_most_or_above (whole y) i) [
   | inr m ↦ absurd (omega (arith, l, ended_first most y ys i h.1 m))
   | inl m ↦ find_cons y ys (ended_items (y ∷ ys) i) (ended_items ys (i - whole y))
       (ended_items_cons y ys i m) (counts_ended ys (i - whole y)) k
-      (omega (arith, ended_cons y ys i (i - whole y) (counts y.outcome) refl (le_true (whole y) i (counts y.outcome) m)))
+      (omega (arith, ended_cons y ys i (i - whole y) (counts y.outcome) refl (grind (arith, nat_tests))))
       (λ j g. ended_find most ys h.1 (i - whole y) j g)
 ]
 
@@ -309,7 +299,7 @@ length-ended_items (y ∷ ys) i = grind (arith, length-append, length_if, length
 -- after the first span its items are among them
 pub begun_items_past :
     (most : ℕ) (y : Span) (ys : List Span) (i : ℕ) → Proper most y → whole y ≤ i → begun_items (y ∷ ys) i ≡ items_of y.outcome ++ begun_items ys (i - whole y)
-begun_items_past most y ys i h l = grind (arith, at_most_or_above, begun_items_cons, no-items, no-count, if_false, nat_tests)
+begun_items_past most y ys i h l = grind (arith, at_most_or_above, begun_items_cons, no-items, if_false, nat_tests, before-count)
 
 -- after the last span they are all items
 pub all_begun : (most : ℕ) (xs : List Span) → AllProper most xs → (i : ℕ) → total xs ≤ i → begun_items xs i ≡ all_items xs

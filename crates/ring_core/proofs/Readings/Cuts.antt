@@ -3,7 +3,6 @@ use Rattle.std.proofs.Common.{◌≡◌, ℕ, suc, ◌*◌, ◌<◌, ◌≤◌, 
 use Rattle.bits_core.specs.declared.events.Side.{Side}
 use Rattle.bits_core.specs.declared.events.Event.{Event}
 use Rattle.bits_core.specs.Made.{Made, begin_event, events_of, IsPrefix}
-use Rattle.ring_core.proofs.Readings.Phrases.{same_made}
 
 -- one number is at most the other, or above it
 pub at_most_or_above : (a b : ℕ) → (a ≤ b) ⊎ (b < a)
@@ -38,7 +37,7 @@ begin_both s (e ∷ []) (x ∷ left) (y ∷ right) (r, p) (r', q) = grind arith
 begin_both s (e ∷ f ∷ es) [] right (r, p) q = absurd (cc)
 begin_both s (e ∷ f ∷ es) (x ∷ left) [] p (r, q) = absurd (cc)
 begin_both s (e ∷ f ∷ es) (x ∷ left) (y ∷ right) (r, p) (r', q) =
-    let same : x ≡ y = same_made s x y (cc) (cc) in
+    let same : x ≡ y = grind arith in
     let on_left : es ++ r ≡ events_of s left = cc in
     let on_right : es ++ r' ≡ events_of s right = cc in
     let rest : BeginBoth s (length es) left right = begin_both s es left right (r, on_left) (r', on_right) in
@@ -67,7 +66,7 @@ also_begins us rest made left e (more, f) = (more, sym (append_assoc us rest mor
 pub made_first : (s : Side) (left right : List Made) → IsPrefix (events_of s left) (events_of s right) → IsPrefix left right
 made_first s [] right begins = (right, refl)
 made_first s (x ∷ left) [] (r, e) = absurd (cc)
-made_first s (x ∷ left) (y ∷ right) (r, e) = grind (arith, same_made, made_first s left right (r, cc))
+made_first s (x ∷ left) (y ∷ right) (r, e) = grind (arith, made_first s left right (r, cc))
 
 -- lists that begin with each other are the same
 pub begin_each_other : {A : Type 0} (xs ys more more' : List A) → ys ≡ xs ++ more → xs ≡ ys ++ more' → xs ≡ ys

@@ -31,15 +31,11 @@ abbrev rest_of : Shape → Count → Put → List Made
 rest_of shape c (Stored seen items) = batch_phrase shape P c items
 rest_of shape c (Full seen) = []
 
--- a put is its head and the rest
-put_parts : (shape : Shape) (c : Count) (x : Put) → put_phrase shape c x ≡ head_of shape c x ++ rest_of shape c x
-put_parts shape c x = grind (arith, append-nil)
-
 -- a list of puts from the first put's head on
 from_head :
     (shape : Shape) (c : Count) (x : Put) (puts : List Put) (close : Bool) →
     puts_from shape c (x ∷ puts) close ≡ head_of shape c x ++ (rest_of shape c x ++ puts_from shape (stored_after shape c x) puts close)
-from_head shape c x puts close = grind (arith, append_assoc, put_parts)
+from_head shape c x puts close = grind (arith, append_assoc, append-nil)
 
 -- the items of a put whose count write has begun within its first t events
 abbrev items_begun : Shape → Count → Put → ℕ → List ℕ
@@ -61,14 +57,10 @@ pub none_put : (shape : Shape) (c : Count) (puts : List Put) (t : ℕ) → t ≡
 none_put shape c [] t e = refl
 none_put shape c (x ∷ puts) t e = search (arith, not_begun, first_items, append-nil, none_put shape (stored_after shape c x) puts (t - events_in (put_phrase shape c x)) (omega (arith, e)))
 
--- the head of a put is no longer than the put
-head_within : (shape : Shape) (c : Count) (x : Put) → length (head_of shape c x) ≤ length (put_phrase shape c x)
-head_within shape c x = omega (arith, length-append (head_of shape c x) (rest_of shape c x), ap length (put_parts shape c x))
-
 -- while nothing follows the first put's head no item is put
 late_put :
     (shape : Shape) (c : Count) (x : Put) (puts : List Put) (t : ℕ) → t ≤ events_in (head_of shape c x) → items_put shape c (x ∷ puts) t ≡ []
-late_put shape c x puts t l = grind (arith, none_put, head_within, first_items, append-nil, not_begun)
+late_put shape c x puts t l = grind (arith, none_put, first_items, append-nil, not_begun, length-append, length)
 
 -- ---- two readings
 
@@ -79,10 +71,6 @@ AreOpen t made left right = suc (2 * length made) ≤ t → OpenBoth P made left
 turned : (made left right : List Made) → OpenBoth P made left right → OpenBoth P made right left
 turned made left right o = grind arith
 
--- an access that starts as a write to a cell does is that write
-begins_as_cell : (x y : Made) (j d : ℕ) (v : Bool) → begin_event P x ≡ begin_event P y → y ≡ Write (Cell j d) v → x ≡ Write (Cell j d) v
-begins_as_cell x y j d v e f = grind arith
-
 -- after the words of a put whose count write has begun in one reading, the other one too continues with no write to a cell
 goes_on :
     (head after made left right : List Made) (t : ℕ) → left ≡ head ++ after → NoCellFirst after → IsPrefix made left → IsPrefix made right →
@@ -92,7 +80,7 @@ goes_on head after made left right t left_is none (more, e) begins both early re
     by_rest rest made_is ends
   where
     by_rest : (rest : List Made) → made ≡ head ++ rest → rest ++ more ≡ after → (zs : List Made) × (head ++ zs ≡ right) × NoCellFirst zs
-    by_rest [] made_is ends = grind (arith, length-append, append-nil, append_cancel_left, begins_as_cell)
+    by_rest [] made_is ends = grind (arith, length-append, append-nil, append_cancel_left)
     by_rest (z ∷ rest) made_is ends =
         let (later, is) = also_begins head (z ∷ rest) made right made_is begins in (
           (z ∷ rest) ++ later,

@@ -17,8 +17,9 @@ use Rattle.ring_core.proofs.CountRow.{past_is}
 use Rattle.ring_core.proofs.Readings.Cuts.{cut}
 use Rattle.ring_core.proofs.Readings.ByCalls.{GoByCalls, calls-append, puts_go_by_calls, takes_go_by_calls}
 use Rattle.ring_core.proofs.Readings.ItemsRead.{puts-are_first}
-use Rattle.ring_core.proofs.Readings.TakesRead.{take_is_long, takes-are_first}
+use Rattle.ring_core.proofs.Readings.TakesRead.{takes-are_first}
 use Rattle.ring_core.proofs.Machines.Following.{events_of-append, length-events}
+use Rattle.ring_core.proofs.Readings.TakesFirst.{scan}
 
 module _ {S X : Type 0} (events : S → X → ℕ) (after : S → X → S) where
   -- the events of these calls, and the state after them
@@ -188,20 +189,12 @@ takes_over-read shape h a b p q =
 -- within no event no take is over
 pub none_over : (shape : Shape) (c : Count) (takes : List Take) → takes_over shape c takes 0 ≡ []
 none_over shape c [] = refl
-none_over shape c (x ∷ takes) = grind (arith, nat_tests, take_is_long shape c x)
-
--- a take has taken its items once it has ended
-ended_as : (shape : Shape) (c : Count) (x : Take) (t : ℕ) → take_ended shape c x t ≡ (if nat_le (events_in (take_phrase shape c x)) t then taken_of x else [])
-ended_as shape c x t = grind arith
-
-if_over : (b : Bool) (x : Take) (more : List ℕ) (rest : List Take) → (b ≡ false → rest ≡ []) → more ≡ all_taken rest →
-    (if b then taken_of x else []) ++ more ≡ all_taken (if b then x ∷ rest else [])
-if_over b x more rest none e = grind arith
+none_over shape c (x ∷ takes) = grind (arith, nat_tests, length-append, scan, append_assoc)
 
 -- the items taken are those of the takes that are over
 pub taken-over : (shape : Shape) (c : Count) (takes : List Take) (t : ℕ) → items_taken shape c takes t ≡ all_taken (takes_over shape c takes t)
 taken-over shape c [] t = refl
-taken-over shape c (x ∷ takes) t = search (arith, nat_tests, ended_as, if_over, none_over, taken-over shape (count_after shape c x) takes (t - (events_in (take_phrase shape c x))))
+taken-over shape c (x ∷ takes) t = search (arith, nat_tests, none_over, taken-over shape (count_after shape c x) takes (t - (events_in (take_phrase shape c x))))
 
 -- takes that have all ended have taken all their items
 pub taken_all : (shape : Shape) (c : Count) (takes : List Take) (t : ℕ) → 2 * length (take_phrases shape c takes) ≤ t → items_taken shape c takes t ≡ all_taken takes

@@ -24,9 +24,6 @@ joined_two s t u r z = joined (s ++ t) u r z ∙ append_assoc s t (u ++ (r ++ z)
 
 -- ---- events and accesses
 
-pub same_made : (s : Side) (x y : Made) → begin_event s x ≡ begin_event s y → end_event s x ≡ end_event s y → x ≡ y
-same_made s x y e f = grind arith
-
 -- ---- scans
 
 -- a scan from its first read on
@@ -99,9 +96,6 @@ same_word_read width cell a b xs ys l m e =
 abbrev with_parts : ℕ → Bool → RowWrite
 with_parts b v = record { bit = b; value = v }
 
-same_row : (u v : RowWrite) → u.bit ≡ v.bit → u.value ≡ v.value → u ≡ v
-same_row u v e f = ap (λ b. with_parts b u.value) e ∙ ap (with_parts v.bit) f
-
 -- the writes of a row are determined by their accesses
 pub same_writes :
     (cell : ℕ) (us vs : List RowWrite) (xs ys : List Made) → length us ≡ length vs →
@@ -109,7 +103,7 @@ pub same_writes :
 same_writes cell [] [] xs ys n e = (refl, e)
 same_writes cell [] (v ∷ vs) xs ys n e = absurd (cc)
 same_writes cell (u ∷ us) [] xs ys n e = absurd (cc)
-same_writes cell (u ∷ us) (v ∷ vs) xs ys n e = grind (arith, same_row, same_writes cell us vs xs ys (omega (arith, n)) (cc))
+same_writes cell (u ∷ us) (v ∷ vs) xs ys n e = grind (arith, same_writes cell us vs xs ys (omega (arith, n)) (cc))
 
 digits_written : (n a b : ℕ) → digit_writes a n ≡ digit_writes b n → (i : ℕ) → i < n → digit i a ≡ digit i b
 digits_written zero a b e i l = absurd (omega arith)

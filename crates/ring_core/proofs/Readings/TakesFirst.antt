@@ -17,21 +17,5 @@ scan c = scan_phrase (row_read_by C) c
 abbrev pub calls_from : Shape → Count → List Take → End → List Made
 calls_from shape c takes end = take_phrases shape c takes ++ end_phrase end
 
-pub item_first :
-    (shape : Shape) (c : Count) (seen : ℕ) (items : List ℕ) (takes : List Take) (end : End) →
-    calls_from shape c (Item seen items ∷ takes) end ≡ scan seen ++ (items_phrase shape c items ++ calls_from shape (count_after shape c (Item seen items)) takes end)
-item_first shape c seen items takes end = joined (scan seen) (items_phrase shape c items) (take_phrases shape (count_after shape c (Item seen items)) takes) (end_phrase end)
-
-pub after_first :
-    (shape : Shape) (c : Count) (seen again : ℕ) (items : List ℕ) (takes : List Take) (end : End) →
-    calls_from shape c (ItemAfterClose seen again items ∷ takes) end ≡
-    scan seen ++ (Read X true ∷ (scan again ++ (items_phrase shape c items ++ calls_from shape (count_after shape c (ItemAfterClose seen again items)) takes end)))
-after_first shape c seen again items takes end = grind (arith, joined_two)
-
-pub empty_first :
-    (shape : Shape) (c : Count) (seen : ℕ) (takes : List Take) (end : End) →
-    calls_from shape c (Empty seen ∷ takes) end ≡ scan seen ++ (Read X false ∷ calls_from shape c takes end)
-empty_first shape c seen takes end = joined (scan seen) (Read X false ∷ []) (take_phrases shape c takes) (end_phrase end)
-
 pub closed_first : (shape : Shape) (c : Count) (seen again : ℕ) → calls_from shape c [] (Closed seen again) ≡ scan seen ++ (Read X true ∷ (scan again ++ []))
 closed_first shape c seen again = ap (λ l. scan seen ++ (Read X true ∷ l)) (sym (append-nil (scan again)))

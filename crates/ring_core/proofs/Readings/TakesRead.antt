@@ -74,16 +74,6 @@ same_items_phrase shape c is i j xs ys batch batch' e = grind (arith, same_words
 
 -- ---- calls that begin alike
 
--- a take from its scan on
-scans_first : (shape : Shape) (k : Count) (x : Take) → (c : ℕ) × (rest : List Made) × (take_phrase shape k x ≡ scan c ++ rest)
-scans_first shape k (Item seen items) = (seen, items_phrase shape k items, refl)
-scans_first shape k (ItemAfterClose seen again items) = grind (arith, scan again, scan seen, append_assoc (scan seen) (Read X true ∷ scan again) (items_phrase shape k items))
-scans_first shape k (Empty seen) = (seen, Read X false ∷ [], refl)
-
--- a take has an access
-pub take_is_long : (shape : Shape) (k : Count) (x : Take) → 0 < length (take_phrase shape k x)
-take_is_long shape k x = grind (arith, scans_first, length-append)
-
 -- calls from the first take on
 pub from_take :
     (shape : Shape) (k : Count) (x : Take) (takes : List Take) (end : End) →
@@ -155,7 +145,7 @@ same_take shape k is (Empty c) (ItemAfterClose d d' j) xs ys p q e = grind (arit
 same_first :
     (shape : Shape) (k : Count) (is : IsCount shape k) (x : Take) (ys : List Take) (b : End) (zs : List Made) → IsTake shape k.number x → AreTakes shape k.number ys b →
     take_phrase shape k x ++ zs ≡ calls_from shape k ys b → (more : List Take) × (ys ≡ x ∷ more)
-same_first shape k is x [] Open zs p q e = absurd (omega (arith, ap length e, length-append (take_phrase shape k x) zs, take_is_long shape k x))
+same_first shape k is x [] Open zs p q e = absurd (grind (arith, ap length e, length-append (take_phrase shape k x) zs, length-append, scan, append_assoc))
 same_first shape k is x [] (Closed d d') zs p q e = absurd (never_end shape k x d d' zs [] p q.0 q.1 (e ∙ sym (append-nil (end_phrase (Closed d d')))))
 same_first shape k is x (y ∷ ys) b zs p q e =
     (ys, ap (λ z. z ∷ ys) (sym (same_take shape k is x y zs (calls_from shape (count_after shape k y) ys b) p q.0 (e ∙ from_take shape k y ys b))))

@@ -20,11 +20,6 @@ either t n = grind arith
 
 -- ---- takes
 
--- a take of items ends after the start of its count write
-before_whole : (shape : Shape) (c : Count) (items : List ℕ) (looks : List Made) → IsCount shape c → IsTakeBatch shape items →
-    events_in (looks ++ words_read shape c.number items) < events_in (looks ++ items_phrase shape c items)
-before_whole shape c items looks is batch = grind (arith, length-append, batch_long, take_batch_below)
-
 two_parts : (x y : List Made) (t : ℕ) → events_in (x ++ y) ≤ t → (events_in x ≤ t) × (events_in y ≤ t - events_in x)
 two_parts x y t l = (omega (arith, l, length-append x y), omega (arith, l, length-append x y))
 
@@ -32,7 +27,7 @@ two_parts x y t l = (omega (arith, l, length-append x y), omega (arith, l, lengt
 counted_first : (shape : Shape) (c : Count) (items : List ℕ) (looks : List Made) (t more : ℕ) (all : List ℕ) → IsCount shape c → IsTakeBatch shape items →
     events_in (looks ++ items_phrase shape c items) ≤ t → more ≡ length all →
     (if nat_lt (events_in (looks ++ words_read shape c.number items)) t then length items else 0) + more ≡ length (items ++ all)
-counted_first shape c items looks t more all is batch whole rest = grind (arith, cond-true, lt-ltb, before_whole, length-append)
+counted_first shape c items looks t more all is batch whole rest = grind (arith, cond-true, lt-ltb, length-append, batch_long, take_batch_below)
 
 pub all-counted : (shape : Shape) (c : Count) (takes : List Take) (end : End) (t : ℕ) → IsCount shape c → AreTakes shape c.number takes end →
     events_in (take_phrases shape c takes) ≤ t → taken_begun shape c takes t ≡ length (all_taken takes)

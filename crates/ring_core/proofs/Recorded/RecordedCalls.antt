@@ -16,12 +16,12 @@ use Rattle.ring_core.proofs.OverSpans.Timeline.{AllProper}
 use Rattle.ring_core.proofs.OverSpans.LookSpans.{look, put_looks, take_looks, span_of, spans, put_spans, take_spans}
 use Rattle.ring_core.proofs.OverSpans.Looks.{proper_puts, proper_takes}
 use Rattle.ring_core.proofs.CountRow.{past_is}
-use Rattle.ring_core.proofs.OverSpans.CallSpans.{take_phrase-item, take_phrase-after, take_phrase-empty}
+use Rattle.ring_core.proofs.OverSpans.CallSpans.{take_phrase-item, take_phrase-after, take_phrase-empty, stands_at}
 pub use Rattle.ring_core.proofs.OverSpans.CallSpans.{put_items}
 use Rattle.ring_core.proofs.Linear.PutTurns.{put_long}
 use Rattle.ring_core.proofs.Linear.PutTurnFacts.{long_is}
 use Rattle.ring_core.proofs.Linear.TakeTurns.{take_long}
-use Rattle.ring_core.proofs.Recorded.RecordedSpans.{SpansBehind, spans_first, spans_past}
+use Rattle.ring_core.proofs.Recorded.RecordedSpans.{SpansBehind, spans_past}
 use Rattle.ring_core.proofs.Recorded.TellsByOne.{behind_told}
 
 -- ---- what the events of one call record
@@ -32,11 +32,6 @@ told_in long begins ends i behind l = ap (λ (b : Bool). if b then call_told lon
 -- the first records the start
 pub told_first : (long : ℕ) (begins ends : calls.Event) (behind : List calls.Event) → 0 < long → told_or_behind long begins ends 0 behind ≡ begins ∷ []
 told_first long begins ends behind l = grind (arith, told_in, eq-eqb)
-
--- so they record what comes after, from its first event on
-told_behind :
-    (long : ℕ) (begins ends : calls.Event) (next : ℕ → List calls.Event) (j : ℕ) → told_or_behind long begins ends (long + j) (next (long + j - long)) ≡ next j
-told_behind long begins ends next j = grind (arith, behind_told)
 
 -- ---- the calls of a side
 
@@ -52,7 +47,7 @@ pub record CallsBehind (most : ℕ) (all : List Span) (tell : ℕ → List calls
 abbrev calls_first :
     (most : ℕ) (all : List Span) (tells : ℕ → ℕ → List calls.Event) → AllProper most all → CallsBehind most all (tells 0) 0 [] all tells 0
 calls_first most all tells proper = record {
-  spans_are = spans_first most all proper;
+  spans_are = grind (arith, stands_at);
   made = 0;
   told = λ j. (let same : 0 + j ≡ j = omega arith in ap (tells 0) same);
   number = refl;
@@ -95,7 +90,7 @@ puts_first shape offers puts are offered =
 
 put_told_past : (shape : Shape) (offers : ℕ → List ℕ) (made : ℕ) (c : Count) (x : Put) (rest : List Put) (closes : Bool) (j : ℕ) →
     put_told shape offers made c (x ∷ rest) closes (put_long shape c x + j) ≡ put_told shape offers (suc made) (stored_after shape c x) rest closes j
-put_told_past shape offers made c x rest closes j = grind (arith, told_behind, put_long)
+put_told_past shape offers made c x rest closes j = grind (arith, put_long, behind_told)
 
 put_spans_past : (shape : Shape) (puts : Puts) (c : Count) (start : ℕ) (stored : List ℕ) (x : Put) (rest : List Put) →
     SpansBehind (batch_of shape) (put_spans shape puts) start stored (spans P shape c (put_looks (x ∷ rest))) →
@@ -151,7 +146,7 @@ takes_first shape wants takes are wanted =
 
 take_told_past : (shape : Shape) (wants : ℕ → ℕ) (made : ℕ) (c : Count) (x : Take) (rest : List Take) (end : End) (j : ℕ) →
     take_told shape wants made c (x ∷ rest) end (take_long shape c x + j) ≡ take_told shape wants (suc made) (count_after shape c x) rest end j
-take_told_past shape wants made c x rest end j = grind (arith, told_behind, take_long)
+take_told_past shape wants made c x rest end j = grind (arith, take_long, behind_told)
 
 take_spans_past : (shape : Shape) (takes : Takes) (c : Count) (start : ℕ) (taken : List ℕ) (x : Take) (rest : List Take) →
     SpansBehind (take_batch_of shape) (take_spans shape takes) start taken (spans C shape c (take_looks (x ∷ rest) takes.end)) →

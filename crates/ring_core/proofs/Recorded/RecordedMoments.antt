@@ -31,9 +31,6 @@ pub record Moment (h : List Event) (t p q : ℕ) (rest : List Event) : Type 0 wh
   pub puts : (j : ℕ) → clock P h (t + j) ≡ p + clock P rest j
   pub takes : (j : ℕ) → clock C h (t + j) ≡ q + clock C rest j
 
-pub moment_first : (h : List Event) → Moment h 0 0 0 h
-moment_first h = grind arith
-
 pub at_p : (h : List Event) (t p q : ℕ) (rest : List Event) → Moment h t p q rest → clock P h t ≡ p
 at_p h t p q rest m =
     let e : t + 0 ≡ t = omega arith in
@@ -64,25 +61,18 @@ pub next_q : (h : List Event) (t p q : ℕ) (e : Event) (rest : List Event) → 
 next_q h t p q e rest by m = omega (arith, at_q h (suc t) p (suc q) rest (past_q h t p q e rest by m), clock_within C h (suc t))
 
 -- and is there
-place_here : (s : Side) (h : List Event) (t i : ℕ) → clock s h t ≡ i → clock s h (suc t) ≡ suc i → IsPlaceOf s h i t
+pub place_here : (s : Side) (h : List Event) (t i : ℕ) → clock s h t ≡ i → clock s h (suc t) ≡ suc i → IsPlaceOf s h i t
 place_here s h t i here past = grind (arith, one_place s h i t (here, past), subhistory_has_place s h i (omega (arith, past, clock_within s h (suc t))), clock_within s h (suc t))
 
 pub place_p : (h : List Event) (t p q : ℕ) (e : Event) (rest : List Event) → e.side ≡ P → Moment h t p q (e ∷ rest) → IsPlaceOf P h p t
 place_p h t p q e rest by m = place_here P h t p (at_p h t p q (e ∷ rest) m) (at_p h (suc t) (suc p) q rest (past_p h t p q e rest by m))
 
-pub place_q : (h : List Event) (t p q : ℕ) (e : Event) (rest : List Event) → e.side ≡ C → Moment h t p q (e ∷ rest) → IsPlaceOf C h q t
-place_q h t p q e rest by m = place_here C h t q (at_q h t p q (e ∷ rest) m) (at_q h (suc t) p (suc q) rest (past_q h t p q e rest by m))
-
--- a side has no more events than its calls have
-few_own : (s : Side) (subhistory all : List Event) → IsPrefix subhistory all → length subhistory ≤ length all
-few_own s subhistory all (more, e) = omega (arith, ap length e, length-append subhistory more)
-
 pub few_puts : (shape : Shape) (h : List Event) (puts : Puts) → FollowsPuts shape h puts → length (subhistory P h) ≤ before_close shape puts + events_in (close_phrase puts.closes)
 few_puts shape h puts follows =
-    grind (arith, few_own P (subhistory P h) (events_of P (put_program shape puts)) follows.events, length-events P (put_program shape puts), length-append (put_phrases shape first_count puts.puts) (close_phrase puts.closes))
+    grind (arith, length-events P (put_program shape puts), length-append (put_phrases shape first_count puts.puts) (close_phrase puts.closes), length, length-append)
 
 pub few_takes : (shape : Shape) (h : List Event) (takes : Takes) → FollowsTakes shape h takes → length (subhistory C h) ≤ events_in (take_program shape takes)
-few_takes shape h takes follows = grind (arith, few_own C (subhistory C h) (events_of C (take_program shape takes)) follows.events, length-events C (take_program shape takes))
+few_takes shape h takes follows = grind (arith, length-events C (take_program shape takes), length, length-append)
 
 -- ---- the law at a moment
 

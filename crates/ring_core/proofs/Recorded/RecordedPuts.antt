@@ -37,13 +37,6 @@ put_two : (shape : Shape) (c : Count) (x : Put) → 2 ≤ put_long shape c x
 put_two shape c (Stored seen items) = omega (arith, before_put_ends shape c seen items)
 put_two shape c (Full seen) = omega (arith, put_some shape c seen)
 
--- a close has at least two
-some_close : (b : Bool) → 0 < events_in (close_phrase b) → b ≡ true
-some_close b l = grind arith
-
-few_close : (b : Bool) → events_in (close_phrase b) ≤ 2
-few_close b = grind arith
-
 -- if fewer items were taken than there were, as many were taken as requested
 pub took_all : (room : ℕ) (items : List ℕ) → length (take room items) < length items → length (take room items) ≡ room
 took_all room items l = grind (arith, at_most_or_above, length-take-le, take_all)
@@ -136,7 +129,7 @@ module _ (shape : Shape) (offers : ℕ → List ℕ) (wants : ℕ → ℕ) (h : 
       Stepped shape offers wants h puts takes (suc t) (suc p) q rest k (told p)
   close_begins t p q e rest k by now c b none free =
       let here : p ≡ p + 0 = omega arith in
-      let closes : puts.closes ≡ true = grind (arith, some_close, next_p, few_puts) in
+      let closes : puts.closes ≡ true = grind (arith, next_p, few_puts) in
       by_events shape offers wants h puts takes (suc t) (suc p) q rest k (CloseBegin ∷ []) (told p)
       (ap told here ∙ b.told 0 ∙ ap (λ d. put_told shape offers b.made c [] d 0) closes ∙ told_first (events_in (close_phrase true)) CloseBegin CloseEnd [] (omega arith))
       (record {
@@ -291,12 +284,5 @@ module _ (shape : Shape) (offers : ℕ → List ℕ) (wants : ℕ → ℕ) (h : 
       | inr l ↦ put_goes_on t p q e rest k by now r l
     ]
     | inr (inr (inl r)) ↦ close_ends t p q e rest k by now r
-    | inr (inr (inr r)) ↦ absurd (omega (
-      arith,
-      r.place_is,
-      r.behind.all,
-      next_p h t p q e rest by now.moment,
-      few_puts shape h puts run.puts_follow,
-      few_close puts.closes,
-    ))
+    | inr (inr (inr r)) ↦ absurd (grind (arith, r.place_is, r.behind.all, next_p h t p q e rest by now.moment, few_puts shape h puts run.puts_follow))
   ]

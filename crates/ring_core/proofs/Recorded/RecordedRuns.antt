@@ -18,7 +18,7 @@ use Rattle.ring_core.specs.Recorded.{put_told, take_told, by_side, calls_told, r
 use Rattle.ring_core.specs.GoingOn.{AreWanted}
 use Rattle.ring_core.proofs.OverSpans.RingOfSpans.{LawOfSpans}
 use Rattle.ring_core.proofs.Recorded.RecordedCalls.{puts_first, takes_first}
-use Rattle.ring_core.proofs.Recorded.RecordedMoments.{moment_first, Now, move_on}
+use Rattle.ring_core.proofs.Recorded.RecordedMoments.{Now, move_on}
 use Rattle.ring_core.proofs.Recorded.RecordedPuts.{put_step}
 use Rattle.ring_core.proofs.Recorded.RecordedTakes.{take_step}
 
@@ -60,7 +60,7 @@ module _ (shape : Shape) (offers : ℕ → List ℕ) (wants : ℕ → ℕ) (h : 
         stored = [];
         left = [];
         taken = [];
-        moment = moment_first h;
+        moment = grind arith;
         put = inl (record { count = first_count; rest = puts.puts; behind = puts_first shape offers puts run.puts_follow.are offered; left_is = refl; put_is = refl });
         take = inl (record { count = first_count; rest = takes.takes; behind = takes_first shape wants takes run.takes_follow.are wanted; take_is = refl });
         items = refl;

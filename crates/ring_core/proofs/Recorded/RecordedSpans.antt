@@ -13,10 +13,6 @@ pub record SpansBehind (most : ℕ) (all : List Span) (start : ℕ) (passed : Li
   pub stands : (s n : ℕ) (x : Span) → IsSpanAt rest s n x → IsSpanAt all (start + s) (length passed + n) x
   pub proper : AllProper most rest
 
--- after none
-pub spans_first : (most : ℕ) (all : List Span) → AllProper most all → SpansBehind most all 0 [] all
-spans_first most all proper = grind (arith, stands_at)
-
 -- after one more
 pub spans_past :
     (most : ℕ) (all : List Span) (start stop : ℕ) (passed : List ℕ) (x : Span) (rest : List Span) → stop ≡ start + whole x →

@@ -237,15 +237,9 @@ first_taken shape wants takes c start taken rest q l b =
 pub few_items : (shape : Shape) (k wanted : ℕ) (x : Take) → IsTakeOf shape k wanted x → length (taken_of x) ≤ wanted
 few_items shape k wanted x e = grind arith
 
-none_if : (t : Bool) (l : List ℕ) → (if t then [] else []) ++ l ≡ l
-none_if t l = grind arith
-
 -- the take that returns Closed counts nothing
 end_begun : (shape : Shape) (c : Count) (end : End) (j : ℕ) → begun_items (spans C shape c (take_looks [] end)) j ≡ []
-end_begun shape c end j = grind (arith, none_if)
-
-pub end_ended : (shape : Shape) (c : Count) (end : End) (j : ℕ) → ended_items (spans C shape c (take_looks [] end)) j ≡ []
-end_ended shape c end j = grind (arith, none_if)
+end_begun shape c end j = grind arith
 
 over_begun :
     (shape : Shape) (wants : ℕ → ℕ) (takes : Takes) (c : Count) (start : ℕ) (taken : List ℕ) (q : ℕ) → start ≤ q → TakesBehind shape wants takes c start taken [] →

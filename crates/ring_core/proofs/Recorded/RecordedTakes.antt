@@ -35,8 +35,8 @@ use Rattle.ring_core.proofs.CallCounts.{phrase_some}
 use Rattle.ring_core.proofs.Linear.TakeTurns.{take_long, end_long, end_some}
 use Rattle.ring_core.proofs.Recorded.RecordedSpans.{stands_next, counted_here}
 use Rattle.ring_core.proofs.Recorded.RecordedCalls.{told_first, TakesBehind, takes_past}
-use Rattle.ring_core.proofs.Recorded.RecordedStates.{before_close, IsClosing, TakeAt, TakeRuns, TakeEnds, put_view, end_ended}
-use Rattle.ring_core.proofs.Recorded.RecordedMoments.{at_p, at_q, past_q, next_q, place_q, few_takes, within_at, prefix_at, Now, Stepped, by_events}
+use Rattle.ring_core.proofs.Recorded.RecordedStates.{before_close, IsClosing, TakeAt, TakeRuns, TakeEnds, put_view}
+use Rattle.ring_core.proofs.Recorded.RecordedMoments.{at_p, at_q, past_q, next_q, few_takes, within_at, prefix_at, Now, Stepped, by_events, place_here}
 use Rattle.ring_core.proofs.Recorded.TellsByOne.{between_told, last_told}
 use Rattle.bits_core.proofs.LawLemmas.{subhistory_has_place}
 
@@ -46,10 +46,6 @@ take_two shape c x = omega (arith, phrase_some shape c x)
 
 end_two : (seen again : ℕ) → 2 ≤ end_long seen again
 end_two seen again = omega (arith, end_some seen again)
-
--- a take of fewer items than it asks for takes all that its scan showed
-takes_shown : (wanted shown m : ℕ) → (m ≡ wanted) ⊎ (m ≡ shown) → m < wanted → shown ≡ m
-takes_shown wanted shown m h1 l = grind arith
 
 -- every take asks for an item, including the one that returns Closed
 module _ (shape : Shape) (offers : ℕ → List ℕ) (wants : ℕ → ℕ) (h : List Event) (puts : Puts) (takes : Takes) (run : IsRun shape h puts takes)
@@ -114,7 +110,7 @@ module _ (shape : Shape) (offers : ℕ → List ℕ) (wants : ℕ → ℕ) (h : 
   lacks c taken (Item seen items) more t p q stored inside b place ep eq ended l over fewer =
       let y = span_of C shape c (look seen (Passes items)) in
       let st = stands_next (take_batch_of shape) (take_spans shape takes) q taken y _ b.spans_are in
-      let shown : distance (modulus_of shape) seen (c.number % modulus_of shape) ≡ length items = takes_shown _ _ _ b.wanted.0.1 fewer in
+      let shown : distance (modulus_of shape) seen (c.number % modulus_of shape) ≡ length items = grind arith in
       let few = drained c taken seen items t q st b.number shown b.are.0.1.some (omega (arith, over, take_phrase-item shape c seen items)) (omega (arith, eq)) in
       omega (arith, few, ended, l, ap (counts_ended (put_spans shape puts)) ep)
   lacks c taken (ItemAfterClose seen again items) more t p q stored inside b place ep eq ended l over fewer =
@@ -152,7 +148,7 @@ module _ (shape : Shape) (offers : ℕ → List ℕ) (wants : ℕ → ℕ) (h : 
       omega (arith, view.left_by, ap length now.items, length-append now.taken k.inside, length-append now.stored now.left) in
       let here_p = at_p h t p q (e ∷ rest) now.moment in
       let here_q = at_q h t p q (e ∷ rest) now.moment in
-      let place = place_q h t p q e rest by now.moment in
+      let place = place_here C h t q (at_q h t p q (e ∷ rest) now.moment) (at_q h (suc t) p (suc q) rest (past_q h t p q e rest by now.moment)) in
       by_events shape offers wants h puts takes (suc t) p (suc q) rest k (TakeBegin wanted ∷ []) (told q)
       (ap told here ∙ b.told 0 ∙ told_first (take_long shape c x) (TakeBegin wanted) (take_answer x) _ (omega (arith, two)))
       (record {
@@ -346,7 +342,7 @@ module _ (shape : Shape) (offers : ℕ → List ℕ) (wants : ℕ → ℕ) (h : 
       let (none, stored_all, closing) = view.over past in
       let last : suc q ≡ r.start + suc j = omega (arith, on) in
       let taken_is : now.taken ≡ all_put puts.puts =
-      sym (append-nil now.taken) ∙ sym (ap (λ l. now.taken ++ l) (end_ended shape r.count takes.end (suc j))) ∙ sym (r.behind.spans_are.ended (suc j)) ∙
+      sym (append-nil now.taken) ∙ sym (ap (λ l. now.taken ++ l) (grind arith)) ∙ sym (r.behind.spans_are.ended (suc j)) ∙
       ap (ended_items (take_spans shape takes)) (sym last ∙ sym at) ∙ sym (takes_items shape first_count takes.takes takes.end (clock C h (suc t))) ∙ taken_all in
       let empty : k.inside ≡ [] =
       nothing now.taken k.inside (now.items ∙ ap (λ l. now.stored ++ l) none ∙ append-nil now.stored ∙ stored_all ∙ sym taken_is) in

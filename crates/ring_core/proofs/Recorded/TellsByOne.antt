@@ -10,9 +10,6 @@ use Rattle.ring_core.proofs.Readings.Over.{total}
 
 -- ---- tests
 
-eq_not : (a b : ℕ) → a < b → nat_eq a b ≡ false
-eq_not a b l = grind (arith, nat_tests)
-
 not_first : (i : ℕ) → 0 < i → nat_eq i 0 ≡ false
 not_first i l = grind (arith, nat_tests)
 
@@ -33,7 +30,7 @@ first_told long begins ends i behind some e = grind (arith, lt-ltb, eq-eqb)
 
 pub between_told :
     (long : ℕ) (begins ends : Event) (i : ℕ) (behind : List Event) → 0 < i → suc i < long → told_or_behind long begins ends i behind ≡ []
-between_told long begins ends i behind l m = grind (arith, lt-ltb, not_first, eq_not)
+between_told long begins ends i behind l m = grind (arith, lt-ltb, not_first, nat_tests)
 
 pub last_told :
     (long : ℕ) (begins ends : Event) (i : ℕ) (behind : List Event) → 0 < i → suc i ≡ long → told_or_behind long begins ends i behind ≡ ends ∷ []

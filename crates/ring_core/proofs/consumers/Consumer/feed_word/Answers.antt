@@ -1,4 +1,4 @@
-use Rattle.std.proofs.Common.{◌≡◌, ℕ, ◌+◌, ◌%◌, [], ◌∷◌, ◌++◌, length, take, ap, ◌∙◌, subst, arith}
+use Rattle.std.proofs.Common.{◌≡◌, ℕ, ◌+◌, ◌%◌, [], ◌∷◌, ◌++◌, length, take, ap, ◌∙◌, subst, arith, length-append}
 use Rattle.bits_core.specs.Shape.{modulus_of}
 use Rattle.register_core.specs.UnaryState.{UnaryState, UnaryStands}
 use Rattle.ring_core.specs.declared.consumers.Stage.TheVariants.{Loading}
@@ -6,7 +6,7 @@ use Rattle.ring_core.specs.contracts.consumers.Consumer.{the_view}
 use Rattle.ring_core.specs.ConsumerState.{ConsumerState}
 use Rattle.ring_core.proofs.Machines.Batches.{taken_so}
 use Rattle.ring_core.proofs.CountRow.{take_batch_below}
-use Rattle.ring_core.proofs.Machines.ConsumerInvariant.{at_stage, word_keeps, word_whole, kept_size}
+use Rattle.ring_core.proofs.Machines.ConsumerInvariant.{at_stage, word_keeps, word_whole}
 use Rattle.ring_core.proofs.Machines.ConsumerMoves.{word_on, word_next, word_over}
 use Rattle.ring_core.proofs.consumers.Consumer.feed_word.Goals as goal
 
@@ -20,7 +20,7 @@ invariant_of-self-else-self c =
     let (counted, taking, loads, less, few, unread) = at_stage p Loading c.self.invariant.0 stage in
     let len : length p.items ≡ c.self.inside.taken = taken_so c.self.inside.items c.self.inside.taken (omega (arith, c.self.ranges, c.self.invariant.1)) in (
       word_keeps p c.feed.new.self c.write.new.self (take (c.self.inside.taken + 1) c.keep_one.new.kept) c.self.invariant.0 stage
-          (kept_size p.items c.in-Some.item _ c.self.inside.taken p.most c.keep_one.ensures.kept len less c.if-self.false)
+          (grind (arith, length-append))
           (c.write.ensures.state ∙ ap (with_value p.row) (c.past_in.ensures ∙ ap (λ k. (p.count + p.most) % k) c.modulus.ensures.value)),
       omega (arith, len, less, c.self.invariant.3),
       c.self.invariant.2,
@@ -52,7 +52,7 @@ returns-else-self-clause-stands c =
     (word_over p c.feed.new.self c.write.new.self c.args.answer c.in-Some.item (take (c.self.inside.taken + 1) c.keep_one.new.kept) stage c.feed.ensures.stands
     (word_whole p c.feed.new.self c.args.answer c.value.result c.in-Some.item loads c.feed.ensures.state c.in-Some.is c.value.ensures.stands)
     c.keep_one.ensures.kept
-    (kept_size p.items c.in-Some.item _ c.self.inside.taken p.most c.keep_one.ensures.kept len less c.if-self.false)
+    (grind (arith, length-append))
     (λ values made stands. subst (λ v. UnaryStands c.write.new.self (values ++ v ∷ []) made) value (c.write.ensures.stands values made stands)))
 
 pub past_in-cell-requires : goal.past_in-cell-requires
