@@ -39,10 +39,6 @@ use Rattle.bits_core.proofs.LawLemmas.{subhistory_has_place}
 interval_at : (s : Side) (h : List Event) (i i' e e' start stop : ℕ) → i ≡ i' → e ≡ e' → IsInterval s h i e start stop → IsInterval s h i' e' start stop
 interval_at s h i i' e e' start stop p q r = subst (λ m. IsInterval s h m e' start stop) p (subst (λ m. IsInterval s h i m start stop) q r)
 
--- a scan has an event
-scan_some : (s : Side) (seen : ℕ) → 1 ≤ scan_events s seen
-scan_some s seen = omega (arith, length-scan (row_read_by s) seen)
-
 -- the take of an item by its span
 pub record HasWord (shape : Shape) (calls : Takes) (n index item word stop : ℕ) : Type 0 where
   pub start : ℕ
@@ -94,7 +90,7 @@ module _ (shape : Shape) (h : List Event) (puts : Puts) (takes : Takes) (run : I
       by_span.ReadsCount (modulus_of shape) (clock s h) (clock (other s) h) writes start x least most →
       ReadsCount s shape h start seen calls items ended_are begun_are least most
   reads_count s start seen x calls items ended_are begun_are writes least most ends begins numbers seen_is scan_is l r =
-      let some : 1 ≤ scan_events s seen = scan_some s seen in
+      let some : 1 ≤ scan_events s seen = omega (arith, length-scan (row_read_by s) seen) in
       let e : ℕ = start + scan_events s seen - 1 in
       let first : ℕ = place_of s h start in
       let last : ℕ = place_of s h e in
@@ -198,7 +194,7 @@ module _ (shape : Shape) (h : List Event) (puts : Puts) (takes : Takes) (run : I
   pub full : FullIsFresh shape h puts takes
   full seen n start stop at l =
       let z = put_has_span shape puts (Full seen) n start stop at in
-      let some : 1 ≤ scan_events P seen = scan_some P seen in
+      let some : 1 ≤ scan_events P seen = omega (arith, length-scan (row_read_by P) seen) in
       let first : ℕ = place_of P h start in
       let is_first : IsPlaceOf P h start first = subhistory_has_place P h start (omega (arith, l, z.stop_is, z.scan_is, some)) in
       grind (arith, takes_ended_are)
@@ -206,7 +202,7 @@ module _ (shape : Shape) (h : List Event) (puts : Puts) (takes : Takes) (run : I
   pub fill : FillIsFresh shape h puts takes
   fill seen stored n start stop at l fills =
       let z = put_has_span shape puts (Stored seen stored) n start stop at in
-      let some : 1 ≤ scan_events P seen = scan_some P seen in
+      let some : 1 ≤ scan_events P seen = omega (arith, length-scan (row_read_by P) seen) in
       let first : ℕ = place_of P h start in
       let is_first : IsPlaceOf P h start first = subhistory_has_place P h start (omega (arith, l, some)) in
       grind (arith, takes_ended_are)
@@ -214,7 +210,7 @@ module _ (shape : Shape) (h : List Event) (puts : Puts) (takes : Takes) (run : I
   pub drain : DrainIsFresh shape h puts takes
   drain seen items k start stop at l drains some_items =
       let z = item_has_span shape takes seen items k start stop at in
-      let some : 1 ≤ scan_events C seen = scan_some C seen in
+      let some : 1 ≤ scan_events C seen = omega (arith, length-scan (row_read_by C) seen) in
       let first : ℕ = place_of C h start in
       let is_first : IsPlaceOf C h start first = subhistory_has_place C h start (omega (arith, l, some)) in
       let size : counts z.span.outcome ≡ length items = ap counts z.outcome_is in

@@ -125,12 +125,6 @@ module _ (shape : Shape) (h : List Event) (lawful : IsLawful shape h) (puts : Li
   apart : (v : Bool) (answer : Bool) (start stop last : ℕ) → IsWrite h X v start stop → slice_get h last ≡ Some (record { side = C; bit = X; act = ReadEnd answer }) → (start ≡ last) → ⊥
   apart v answer start stop last w ends e = search arith
 
-  begun_before_end : (v answer : Bool) (start stop last : ℕ) → IsWrite h X v start stop → slice_get h last ≡ Some (record { side = C; bit = X; act = ReadEnd answer }) → (last < start → ⊥) → start < last
-  begun_before_end v answer start stop last w ends l = grind (arith, at_most_or_above, apart)
-
-  after_start : (v : Bool) (start stop : ℕ) → IsWrite h X v start stop → start < stop
-  after_start v start stop w = omega (arith, w.ends)
-
   -- an ended read of the close bit
   pub read_of_close :
       (first last : ℕ) (answer : Bool) → IsRead h C X first last answer → first ≤ last →
@@ -140,8 +134,8 @@ module _ (shape : Shape) (h : List Event) (lawful : IsLawful shape h) (puts : Li
       ((λ f. if_zero f permitted), (λ t. if_one t permitted))
     where
       if_one : answer ≡ true → HasOverlap h X first last ⊎ IsHeld h X first answer → 2 * length front < clock P h last
-      if_one t (inl o) = close_begun o.value o.start' o.stop' last o.write (begun_before_end o.value answer o.start' o.stop' last o.write read.ends (λ m. o.overlap.0 m))
-      if_one t (inr (inl held)) = close_begun answer held.start held.stop last held.write (omega (arith, after_start answer held.start held.stop held.write, held.ended, order))
+      if_one t (inl o) = close_begun o.value o.start' o.stop' last o.write (grind (arith, at_most_or_above, apart))
+      if_one t (inr (inl held)) = close_begun answer held.start held.stop last held.write (grind (arith, held.ended, order, held.write.ends))
       if_one t (inr (inr (none, is_first))) = absurd (let e : true ≡ false = sym t ∙ is_first in cc)
 
       if_zero : answer ≡ false → HasOverlap h X first last ⊎ IsHeld h X first answer → clock P h first < 2 * length front + 2

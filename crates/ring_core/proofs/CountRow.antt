@@ -67,10 +67,6 @@ clearing_none bits zero clear = refl
 clearing_none bits (suc v) clear =
     ap (λ b. cond b (set_to_0 v ∷ clearing bits v) (clearing bits v)) (clear v (omega arith)) ∙ clearing_none bits v (λ j h. clear j (omega arith))
 
--- the bit writes of a unary write are those that set and those that clear
-length_phrase : (bits : ℕ → Bool) (v : ℕ) → length (unary_phrase bits v) ≡ length (setting bits v) + length (clearing bits v)
-length_phrase bits v = length-append (setting bits v) (clearing bits v)
-
 -- a modulus is greater than 1
 some_modulus : (shape : Shape) → 1 < modulus_of shape
 some_modulus shape = omega (arith, shape.room_to_count, shape.has_batch)
@@ -126,7 +122,7 @@ pub bits_long :
 bits_long shape c items is some few =
     let v : ℕ = c.number % modulus_of shape in
     let v' : ℕ = number_past c.number items % modulus_of shape in
-    let whole : length (unary_phrase c.bits v') ≡ length (setting c.bits v') + length (clearing c.bits v') = length_phrase c.bits v' in
+    let whole : length (unary_phrase c.bits v') ≡ length (setting c.bits v') + length (clearing c.bits v') = length-append (setting c.bits v') (clearing c.bits v') in
     let other : v' ≡ v → ⊥ = grind (arith, apart, past_is) in
     elim (cases_lt v v') [
       | inl l ↦ omega (arith, whole, clearing_some c.bits v v' is.set l)
@@ -148,11 +144,11 @@ clearing_short bits (suc v) = grind (arith, clearing_short bits v)
 
 -- and as many accesses
 pub step_short : (shape : Shape) (s : Side) (c : Count) (item : ℕ) → IsCount shape c → length (batch_phrase shape s c (item ∷ [])) ≤ 2
-step_short shape s c item is = search (arith, length-map, next_modulo, some_modulus, length_phrase, clearing_none)
+step_short shape s c item is = search (arith, length-map, next_modulo, some_modulus, clearing_none, length-append)
 
 -- a write that counts several has no more than the modulus
 pub batch_short : (shape : Shape) (s : Side) (c : Count) (items : List ℕ) → length (batch_phrase shape s c items) ≤ modulus_of shape
-batch_short shape s c items = grind (arith, length-map, length_phrase, clearing_short, mod_below, some_modulus)
+batch_short shape s c items = grind (arith, length-map, clearing_short, mod_below, some_modulus, length-append)
 
 -- ---- the values that are written to a count
 

@@ -59,15 +59,12 @@ quiet-append : (s : Side) (xs ys : List Made) → IsQuiet s xs → IsQuiet s ys 
 quiet-append s [] ys p q = q
 quiet-append s (x ∷ xs) ys p q = (p.0, quiet-append s xs ys p.1 q)
 
-quiet_read : (s : Side) (b : Bit) (v : Bool) → IsQuiet s (Read b v ∷ [])
-quiet_read s b v = (read_none (number_in_count s b), tt)
-
 quiet_zeros : (s : Side) (row : ℕ → Bit) (n : ℕ) → IsQuiet s (zero_reads row n)
 quiet_zeros s row zero = tt
-quiet_zeros s row (suc n) = quiet-append s (zero_reads row n) (Read (row n) false ∷ []) (quiet_zeros s row n) (quiet_read s (row n) false)
+quiet_zeros s row (suc n) = quiet-append s (zero_reads row n) (Read (row n) false ∷ []) (quiet_zeros s row n) ((read_none (number_in_count s (row n)), tt))
 
 quiet_scan : (s : Side) (row : ℕ → Bit) (c : ℕ) → IsQuiet s (scan_phrase row c)
-quiet_scan s row c = quiet-append s (zero_reads row c) (Read (row c) true ∷ []) (quiet_zeros s row c) (quiet_read s (row c) true)
+quiet_scan s row c = quiet-append s (zero_reads row c) (Read (row c) true ∷ []) (quiet_zeros s row c) ((read_none (number_in_count s (row c)), tt))
 
 quiet_cells : (cell : ℕ) (writes : List RowWrite) → IsQuiet P (writes_in (Cell cell) writes)
 quiet_cells cell [] = tt
@@ -75,7 +72,7 @@ quiet_cells cell (w ∷ writes) = (refl, quiet_cells cell writes)
 
 quiet_digits : (s : Side) (cell item n : ℕ) → IsQuiet s (digit_reads cell item n)
 quiet_digits s cell item zero = tt
-quiet_digits s cell item (suc n) = grind (arith, quiet-append, quiet_read, quiet_digits s cell item n)
+quiet_digits s cell item (suc n) = grind (arith, quiet-append, quiet_digits s cell item n, read_none)
 
 quiet_words : (shape : Shape) (n : ℕ) (items : List ℕ) → IsQuiet P (words_phrase shape n items)
 quiet_words shape n [] = tt
@@ -86,7 +83,7 @@ quiet_words_read shape n [] = tt
 quiet_words_read shape n (item ∷ items) = search (arith, quiet-append, quiet_digits, quiet_words_read shape (suc n) items)
 
 quiet_word : (s : Side) (shape : Shape) (n : ℕ) (o : Outcome) → IsQuiet s (word_part s shape n o)
-quiet_word s shape n o = grind (arith, quiet_words, quiet_words_read, quiet_read)
+quiet_word s shape n o = grind (arith, quiet_words, quiet_words_read, read_none)
 
 -- a close is not a write of the producer's count
 pub quiet_close : (closes : Bool) → IsQuiet P (close_phrase closes)

@@ -27,7 +27,7 @@ use Rattle.ring_core.proofs.OverSpans.SpanLaw.{SpanLaw, span_law, IsToldAt, Last
 use Rattle.ring_core.proofs.HistoryClocks.{clocks_of}
 use Rattle.ring_core.proofs.OwnEvents.{clock_within, clock_end, clock_rises, one_place}
 use Rattle.ring_core.proofs.Machines.Following.{length-events}
-use Rattle.ring_core.proofs.OverSpans.Looks.{puts_as_looks, takes_as_looks, proper_puts, proper_takes, total_is, look_from_first, words_are, asks_word, puts_items, takes_items, put_fits, take_fits, last_two, take_rule, put_rule}
+use Rattle.ring_core.proofs.OverSpans.Looks.{puts_as_looks, takes_as_looks, proper_puts, proper_takes, total_is, words_are, asks_word, puts_items, takes_items, put_fits, take_fits, last_two, take_rule, put_rule, look_at}
 use Rattle.ring_core.proofs.CountRow.{has_batch}
 use Rattle.ring_core.proofs.Cells.CellPlaces.{doubled, multiple_up}
 use Rattle.ring_core.proofs.OverSpans.RegularScans.{put_events, take_events, puts_regular, takes_regular}
@@ -82,7 +82,7 @@ module _ (shape : Shape) (h : List Event) (puts : Puts) (takes : Takes) (run : I
       let program : List Made = look_accesses C shape first_count (take_looks takes.takes takes.end) [] in
       let follows : IsPrefix (subhistory C h) (events_of C program) = take_events shape h takes run.takes_follow in
       let (front, back, program_is, start_is) =
-      asks_at shape program k s x answer (look_from_first C shape (take_looks takes.takes takes.end) [] s k x st) asks in
+      asks_at shape program k s x answer (grind (arith, look_at C shape first_count (take_looks takes.takes takes.end) [] s k x st)) asks in
       let word : x.word ≡ 2 = asks_word C shape (take_looks takes.takes takes.end) s k x answer st asks in
       let e_is : e ≡ suc (2 * length front) = omega (arith, ends, word, start_is) in
       let last_own : suc (2 * length front) < length (subhistory C h) = grind (arith, e_is, clock_within) in

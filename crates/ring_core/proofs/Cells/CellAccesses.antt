@@ -79,20 +79,17 @@ none-one : (x : Made) → cell_of x ≡ None → NoCells (x ∷ [])
 none-one x none zero j (y, e, f) = absurd (let same : x ≡ y = cc in let g : None ≡ Some j = sym none ∙ ap cell_of same ∙ f in cc)
 none-one x none (suc m) j (y, e, f) = absurd (cc)
 
-no_cell-row : (s : Side) (i : ℕ) → cell_number (row_bit s i) ≡ None
-no_cell-row s i = grind arith
-
 none-zeros : (s : Side) (n : ℕ) → NoCells (zero_reads (row_bit s) n)
 none-zeros s zero = none-nil
-none-zeros s (suc n) = none-append (zero_reads (row_bit s) n) (Read (row_bit s n) false ∷ []) (none-zeros s n) (none-one (Read (row_bit s n) false) (no_cell-row s n))
+none-zeros s (suc n) = none-append (zero_reads (row_bit s) n) (Read (row_bit s n) false ∷ []) (none-zeros s n) (none-one (Read (row_bit s n) false) (grind arith))
 
 none-scan : (s : Side) (c : ℕ) → NoCells (scan_phrase (row_bit s) c)
-none-scan s c = none-append (zero_reads (row_bit s) c) (Read (row_bit s c) true ∷ []) (none-zeros s c) (none-one (Read (row_bit s c) true) (no_cell-row s c))
+none-scan s c = none-append (zero_reads (row_bit s) c) (Read (row_bit s c) true ∷ []) (none-zeros s c) (none-one (Read (row_bit s c) true) (grind arith))
 
 none-row : (s : Side) (writes : List RowWrite) → NoCells (writes_in (row_bit s) writes)
 none-row s [] = none-nil
 none-row s (w ∷ writes) =
-    none-append (Write (row_bit s w.bit) w.value ∷ []) (writes_in (row_bit s) writes) (none-one (Write (row_bit s w.bit) w.value) (no_cell-row s w.bit)) (none-row s writes)
+    none-append (Write (row_bit s w.bit) w.value ∷ []) (writes_in (row_bit s) writes) (none-one (Write (row_bit s w.bit) w.value) (grind arith)) (none-row s writes)
 
 -- the digits of a word are of its cell
 in_cell_write : (k : ℕ) (writes : List RowWrite) (m j : ℕ) → AtCell (writes_in (Cell k) writes) m j → k ≡ j

@@ -85,9 +85,6 @@ only_one y [] x after e = (refl, cc)
 only_one y (z ∷ []) x after e = absurd (cc)
 only_one y (z ∷ w ∷ before) x after e = absurd (cc)
 
-length-digits : (c item w : ℕ) → length (writes_in (Cell c) (digit_writes item w)) ≡ w
-length-digits c item w = length-word_write w c item
-
 -- an access among the writes of digits is of the digit whose number is how many come before it
 digit_of :
     (c item w : ℕ) (before : List Made) (x : Made) (after : List Made) (j d : ℕ) (v : Bool) →
@@ -98,7 +95,7 @@ digit_of c item (suc w) before x after j d v e f =
     let last : Made = Write (Cell c w) (digit w item) in
     elim (where_in us (last ∷ []) before x after (sym (digits-snoc c item w) ∙ e)) [
       | inl (rest, us_is, after_is) ↦ grind (arith, digit_of c item w before x rest j d v us_is f)
-      | inr (more, before_is, vs_is) ↦ grind (arith, only_one, length-append, length-digits)
+      | inr (more, before_is, vs_is) ↦ grind (arith, only_one, length-append, length-word_write)
     ]
 
 -- the word of these items, and its digit, that an access to a cell is of
@@ -138,7 +135,7 @@ word_of shape n (item ∷ items) before x after j d v e f =
             item = r.item;
             stored = r.stored;
             same_cell = ap (λ k. k % capacity_of shape) numbers ∙ r.same_cell;
-            place_is = omega (arith, r.place_is, ap length before_is, length-append word more, length-digits cell item w, suc-mul r.index w);
+            place_is = grind (arith, r.place_is, ap length before_is, length-append word more, suc-mul r.index w, length-word_write);
             within = r.within;
           })
     ]
@@ -372,7 +369,7 @@ digit_time width all front back j item place count d is place_is written l =
       before = front ++ done;
       after = ws ++ back;
       is = is ∙ ap (λ z. front ++ (z ++ back)) word ∙ ap (λ z. front ++ z) (append_assoc done (x ∷ ws) back) ∙ sym (append_assoc front done (x ∷ (ws ++ back)));
-      place_is = omega (arith, place_is, length-append front done, length-digits j item d);
+      place_is = grind (arith, place_is, length-append front done, length-word_write);
       written = omega (
         arith,
         written,

@@ -64,10 +64,6 @@ abbrev words_of : Side → Shape → ℕ → List ℕ → List Made
 words_of P shape n items = words_phrase shape n items
 words_of C shape n items = words_read shape n items
 
-words_cons : (s : Side) (shape : Shape) (n item : ℕ) (items : List ℕ) →
-    words_of s shape n (item ∷ items) ≡ word_of s (width_of shape) (n % capacity_of shape) item ++ words_of s shape (suc n) items
-words_cons s shape n item items = grind arith
-
 -- the item whose word begins there
 record ItemAt (s : Side) (shape : Shape) (n : ℕ) (items : List ℕ) (before rest : List Made) (cell : ℕ) (v : Bool) : Type 0 where
   pub index : ℕ
@@ -91,7 +87,7 @@ item_there s shape n (item ∷ items) more [] rest cell v e =
     let j : ℕ = n % capacity_of shape in
     let later : List Made = words_of s shape (suc n) items ++ more in
     let r = some_digits s w j item shape.has_digits in
-    let joined : word_of s w j item ++ later ≡ digit_access s cell 0 v ∷ rest = grind (arith, append_assoc, words_cons) in
+    let joined : word_of s w j item ++ later ≡ digit_access s cell 0 v ∷ rest = grind (arith, append_assoc) in
     let first : digit_access s j 0 (digit 0 item) ∷ (r.tail ++ later) ≡ digit_access s cell 0 v ∷ rest = sym (ap (λ l. l ++ later) r.is) ∙ joined in
     let heads : digit_access s j 0 (digit 0 item) ≡ digit_access s cell 0 v = cc in
     let number : n + 0 ≡ n = omega arith in
@@ -103,7 +99,7 @@ item_there s shape n (item ∷ items) more (y ∷ before) rest cell v e =
     let words : List Made = words_of s shape (suc n) items in
     let z : Made = digit_access s cell 0 v in
     let r = some_digits s w j item shape.has_digits in
-    let joined : word ++ (words ++ more) ≡ y ∷ (before ++ z ∷ rest) = sym (append_assoc word words more) ∙ ap (λ l. l ++ more) (sym (words_cons s shape n item items)) ∙ e in
+    let joined : word ++ (words ++ more) ≡ y ∷ (before ++ z ∷ rest) = sym (append_assoc word words more) ∙ ap (λ l. l ++ more) (sym (grind arith)) ∙ e in
     let later : r.tail ++ (words ++ more) ≡ before ++ z ∷ rest = cc in
     let (a, a_is, a_left) = behind (IsFirst s) r.tail (words ++ more) before rest z (cell, v, refl) r.none later in
     let front : y ∷ before ≡ digit_access s j 0 (digit 0 item) ∷ (r.tail ++ a) = cc in
@@ -120,7 +116,7 @@ item_there s shape n (item ∷ items) more (y ∷ before) rest cell v e =
             after = q.after;
             there = q.there;
           })
-      | inr (b, b_is, left) ↦ grind (arith, append_assoc, words_cons)
+      | inr (b, b_is, left) ↦ grind (arith, append_assoc)
     ]
 
 -- ---- accesses with which no word begins

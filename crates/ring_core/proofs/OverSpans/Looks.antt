@@ -133,12 +133,6 @@ look_at s shape c (l ∷ looks) behind start m x (inr st) =
     let same : n + st.1 ≡ c.number + m = omega (arith, st.3, after_counts c.number l.outcome) in
     grind (arith, later_look, look_at s shape (after_look shape c l.outcome) looks behind st.0 st.1 x st.4)
 
--- also given its number alone, in a whole program
-pub look_from_first :
-    (s : Side) (shape : Shape) (looks : List Look) (behind : List Made) (start m : ℕ) (x : Span) →
-    IsSpanAt (spans s shape first_count looks) start m x → LookAt s shape (look_accesses s shape first_count looks behind) m start x
-look_from_first s shape looks behind start m x st = grind (arith, look_at s shape first_count looks behind start m x st)
-
 -- ---- the parts of a span
 
 pub word_length : (s : Side) (shape : Shape) (n : ℕ) (o : Outcome) → 1 ≤ counts o → length (word_part s shape n o) ≡ counts o * width_of shape
@@ -149,7 +143,7 @@ pub words_are :
     (s : Side) (shape : Shape) (looks : List Look) (start m : ℕ) (x : Span) →
     IsSpanAt (spans s shape first_count looks) start m x → 1 ≤ counts x.outcome → x.word ≡ 2 * (counts x.outcome * width_of shape)
 words_are s shape looks start m x st e =
-    let r : LookAt s shape (look_accesses s shape first_count looks []) m start x = look_from_first s shape looks [] start m x st in
+    let r : LookAt s shape (look_accesses s shape first_count looks []) m start x = grind (arith, look_at s shape first_count looks [] start m x st) in
     grind (arith, word_length)
 
 -- a read of the close bit has two events
@@ -157,7 +151,7 @@ pub asks_word :
     (s : Side) (shape : Shape) (looks : List Look) (start m : ℕ) (x : Span) (answer : Bool) →
     IsSpanAt (spans s shape first_count looks) start m x → x.outcome ≡ Asks answer → x.word ≡ 2
 asks_word s shape looks start m x answer st e =
-    let r : LookAt s shape (look_accesses s shape first_count looks []) m start x = look_from_first s shape looks [] start m x st in
+    let r : LookAt s shape (look_accesses s shape first_count looks []) m start x = grind (arith, look_at s shape first_count looks [] start m x st) in
     grind arith
 
 -- ---- the items
@@ -224,9 +218,6 @@ pub record FitsShape (shape : Shape) (seen : ℕ) (o : Outcome) : Type 0 where
   pub below : seen < modulus_of shape
   pub items : AllFit shape (items_of o)
 
-asks_fits : (shape : Shape) (seen : ℕ) (answer : Bool) → seen < modulus_of shape → FitsShape shape seen (Asks answer)
-asks_fits shape seen answer below = record { below = below; items = tt }
-
 abbrev PutRule : Shape → ℕ → ℕ → Outcome → Type 0
 PutRule shape n seen o =
     FitsShape shape seen o ×
@@ -253,11 +244,11 @@ puts_keep shape n (Stored seen items ∷ puts) ((below, room, batch), h) = grind
 puts_keep shape n (Full seen ∷ puts) ((below, full), h) = grind (arith, puts_keep shape n puts h, at_most_or_above)
 
 takes_keep : (shape : Shape) (k : ℕ) (takes : List Take) (end : End) → AreTakes shape k takes end → EachLook (TakeRule shape) k (take_looks takes end)
-takes_keep shape k [] end h = grind (arith, asks_fits, not_shown)
+takes_keep shape k [] end h = grind (arith, not_shown)
 takes_keep shape k (Item seen items ∷ takes) end (((below, few, room), batch), h) = grind (arith, takes_keep shape (number_past k items) takes end h)
 takes_keep shape k (ItemAfterClose seen again items ∷ takes) end (((below, none), (below', few, room), batch), h) =
-    grind (arith, asks_fits, not_shown, takes_keep shape (number_past k items) takes end h)
-takes_keep shape k (Empty seen ∷ takes) end ((below, none), h) = grind (arith, asks_fits, not_shown, takes_keep shape k takes end h)
+    grind (arith, not_shown, takes_keep shape (number_past k items) takes end h)
+takes_keep shape k (Empty seen ∷ takes) end ((below, none), h) = grind (arith, not_shown, takes_keep shape k takes end h)
 
 pub put_rule :
     (shape : Shape) (c : Count) (puts : List Put) → ArePuts shape c.number puts →

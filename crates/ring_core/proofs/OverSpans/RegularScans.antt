@@ -18,9 +18,9 @@ use Rattle.ring_core.specs.Puts.{Puts, close_phrase, FollowsPuts}
 use Rattle.ring_core.specs.Takes.{Takes, FollowsTakes}
 use Rattle.ring_core.proofs.OverSpans.Spans.{Span, counts_begun, counts_ended, IsSpanAt, tally}
 use Rattle.ring_core.proofs.OverSpans.Clocks.{IsPlace, Permitted, AreRegular}
-use Rattle.ring_core.proofs.OverSpans.LookSpans.{Look, put_looks, take_looks, look_accesses, spans, put_spans, take_spans, LookAt}
+use Rattle.ring_core.proofs.OverSpans.LookSpans.{Look, put_looks, take_looks, look_accesses, spans, put_spans, take_spans, LookAt, look}
 use Rattle.ring_core.proofs.Machines.Lengths.{length-scan}
-use Rattle.ring_core.proofs.OverSpans.Looks.{look_from_first, puts_as_looks, takes_as_looks, AllPassing, puts_pass, takes_pass}
+use Rattle.ring_core.proofs.OverSpans.Looks.{puts_as_looks, takes_as_looks, AllPassing, puts_pass, takes_pass, look_at}
 use Rattle.ring_core.proofs.CountRow.{batch_below, take_batch_below}
 use Rattle.ring_core.proofs.CountTimes.{bit_writes, IsQuiet, quiet_close, sizes_in, sizes_are, tally_up, counted_in, counted_value, count_writes_begun, count_writes_ended, program_writes}
 use Rattle.ring_core.proofs.OwnEvents.{clock_within, one_place, count_begun_own, count_begun_before, count_ended_before}
@@ -83,7 +83,7 @@ scan_there :
     (first last e : ℕ) → IsPlace (clock s h) start first → IsPlace (clock s h) e last → suc e ≡ start + x.scan →
     (from_place : ℕ → ℕ) × (to_place : ℕ → ℕ) × IsScan (other s) h x.seen from_place to_place × (first ≡ from_place 0) × (last ≡ to_place x.seen)
 scan_there shape h s looks behind follows start n x st first last e is_first is_last ends =
-    let r : LookAt s shape (look_accesses s shape first_count looks behind) n start x = look_from_first s shape looks behind start n x st in
+    let r : LookAt s shape (look_accesses s shape first_count looks behind) n start x = grind (arith, look_at s shape first_count looks behind start n x st) in
     let k : ℕ = length r.before in
     let c : ℕ = r.look.seen in
     let seen : x.seen ≡ c = ap (λ (z : Span). z.seen) r.is_x in

@@ -7,14 +7,14 @@ use Rattle.std.proofs.lemmas.List.Prefix.{front_from_reads}
 use Rattle.ring_core.proofs.OverSpans.Spans.{Span, Outcome, Asks, counts, items_of, before_count, whole, counts_begun, counts_ended, begun_items, ended_items, all_items, total, IsSpanAt}
 use Rattle.ring_core.proofs.OverSpans.Clocks.{IsPlace, CellOverlap, word_end, Ring}
 use Rattle.ring_core.proofs.Readings.Cuts.{at_most_or_above}
-use Rattle.ring_core.proofs.OverSpans.Timeline.{AllProper, counts-items, before-whole, before-count, ended_begun, begun_at, ended_at, begun_up, ended_up, begun_all, ended_all, Found, begun_find, ended_find, length-begun_items, length-ended_items, all_begun}
+use Rattle.ring_core.proofs.OverSpans.Timeline.{AllProper, before-whole, before-count, ended_begun, begun_at, ended_at, begun_up, ended_up, begun_all, ended_all, Found, begun_find, ended_find, length-begun_items, length-ended_items, all_begun}
 use Rattle.ring_core.proofs.OverSpans.Distances.{apart, distance_of}
 use Rattle.ring_core.specs.Counts.{distance}
 use Rattle.ring_core.proofs.OverSpans.Gates.{clock_up, place_of, clock_p, clock_c, proper_at, shows_none, leaves_none, within, shown_at, left_at, behind as has_begun, ahead as has_room}
 
 -- an item of an outcome is one of those that it counts
 pub within_items : (o : Outcome) (i item : ℕ) → slice_get (items_of o) i ≡ Some item → i < counts o
-within_items o i item e = omega (arith, counts-items o, slice_get_within (items_of o) i item e)
+within_items o i item e = grind (arith, slice_get_within (items_of o) i item e)
 
 -- the word accesses up to one that is among them are no longer than all
 up_to : (i m word : ℕ) → i < m → suc i * word ≤ m * word

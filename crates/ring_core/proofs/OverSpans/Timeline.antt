@@ -24,21 +24,11 @@ before-whole most x h = omega (arith, h.scan)
 pub before-count : (most : ℕ) (x : Span) → Proper most x → 1 ≤ counts x.outcome → suc (before_count x) ≤ whole x
 before-count most x h o = omega (arith, h.count o)
 
--- it counts its items
-pub counts-items : (o : Outcome) → counts o ≡ length (items_of o)
-counts-items o = grind arith
-
 no-items : (o : Outcome) → counts o ≡ 0 → items_of o ≡ []
 no-items (Passes []) e = refl
 no-items (Passes (item ∷ items)) e = absurd (omega (arith, e))
 no-items Stops e = refl
 no-items (Asks answer) e = refl
-
-lt_true : (a b c : ℕ) → a < b → (if nat_lt a b then c else 0) ≡ c
-lt_true a b c h = grind (arith, nat_tests)
-
-lt_false : (a b c : ℕ) → b ≤ a → (if nat_lt a b then c else 0) ≡ 0
-lt_false a b c h = grind (arith, nat_tests)
 
 -- the count writes of the first span, and those past it
 begun_cons :
@@ -54,7 +44,7 @@ ended_cons y ys i j t e f = cc
 -- at first no count write has begun
 pub begun_zero : (xs : List Span) → counts_begun xs 0 ≡ 0
 begun_zero [] = refl
-begun_zero (y ∷ ys) = omega (arith, begun_cons y ys 0 0 0 (omega arith) (lt_false (before_count y) 0 (counts y.outcome) (omega arith)), begun_zero ys)
+begun_zero (y ∷ ys) = omega (arith, begun_cons y ys 0 0 0 (omega arith) (grind (arith, nat_tests)), begun_zero ys)
 
 -- and none has ended
 pub ended_zero : (most : ℕ) (xs : List Span) → AllProper most xs → counts_ended xs 0 ≡ 0
@@ -63,17 +53,13 @@ ended_zero most (y ∷ ys) h = grind (arith, before-whole, ended_cons, ended_zer
 
 -- before the count write of the first span, during it, and after the span
 begun_first : (most : ℕ) (y : Span) (ys : List Span) (i : ℕ) → Proper most y → i ≤ before_count y → counts_begun (y ∷ ys) i ≡ 0
-begun_first most y ys i h l = grind (arith, before-whole, begun_cons, lt_false, begun_zero)
+begun_first most y ys i h l = grind (arith, before-whole, begun_cons, begun_zero, nat_tests)
 
 begun_middle : (y : Span) (ys : List Span) (i : ℕ) → before_count y < i → i ≤ whole y → counts_begun (y ∷ ys) i ≡ counts y.outcome
-begun_middle y ys i l m = grind (arith, begun_cons, lt_true, begun_zero)
+begun_middle y ys i l m = grind (arith, begun_cons, begun_zero, nat_tests)
 
 begun_past : (most : ℕ) (y : Span) (ys : List Span) (i j : ℕ) → Proper most y → i ≡ whole y + j → counts_begun (y ∷ ys) i ≡ counts y.outcome + counts_begun ys j
-begun_past most y ys i j h e = grind (arith, at_most_or_above, before-whole, begun_cons, lt_false, lt_true, before-count)
-
--- before the end of the first span, and after it
-ended_first : (most : ℕ) (y : Span) (ys : List Span) (i : ℕ) → AllProper most ys → i < whole y → counts_ended (y ∷ ys) i ≡ 0
-ended_first most y ys i h l = grind (arith, ended_cons, ended_zero, nat_tests)
+begun_past most y ys i j h e = grind (arith, at_most_or_above, before-whole, begun_cons, before-count, nat_tests)
 
 pub ended_past : (y : Span) (ys : List Span) (i j : ℕ) → i ≡ whole y + j → counts_ended (y ∷ ys) i ≡ counts y.outcome + counts_ended ys j
 ended_past y ys i j e = ended_cons y ys i j (counts y.outcome) (omega arith) (grind (arith, nat_tests))
@@ -81,7 +67,7 @@ ended_past y ys i j e = ended_cons y ys i j (counts y.outcome) (omega arith) (gr
 -- at each moment at most the last count write that has begun is open
 pub ended_begun : (most : ℕ) (xs : List Span) → AllProper most xs → (i : ℕ) → (counts_ended xs i ≤ counts_begun xs i) × (counts_begun xs i ≤ counts_ended xs i + most)
 ended_begun most [] h i = omega arith
-ended_begun most (y ∷ ys) h i = grind (arith, at_most_or_above, begun_past, ended_past, begun_first, ended_first, begun_middle, whole, ended_begun most ys h.1 (i - whole y))
+ended_begun most (y ∷ ys) h i = grind (arith, at_most_or_above, begun_past, ended_past, begun_first, begun_middle, whole, ended_begun most ys h.1 (i - whole y), ended_cons, ended_zero, nat_tests)
 
 -- a span's number is what is counted, up to the start of its count write
 pub begun_at :
@@ -96,7 +82,7 @@ begun_at most (y ∷ ys) h s n x (inr st) j l = grind (arith, begun_past, begun_
 pub ended_at :
     (most : ℕ) (xs : List Span) → AllProper most xs → (s n : ℕ) (x : Span) → IsSpanAt xs s n x → (j : ℕ) → j < whole x → counts_ended xs (s + j) ≡ n
 ended_at most [] h s n x st j l = elim st [ ]
-ended_at most (y ∷ ys) h s n x (inl st) j l = grind (arith, ended_first)
+ended_at most (y ∷ ys) h s n x (inl st) j l = grind (arith, ended_cons, ended_zero, nat_tests)
 ended_at most (y ∷ ys) h s n x (inr st) j l = grind (arith, ended_past, ended_at most ys h.1 st.0 st.1 x st.4 j l)
 
 -- the span whose count write begins with event i
@@ -161,7 +147,7 @@ begun_up most xs h i j l = subst (λ m. counts_begun xs i ≤ counts_begun xs m)
 -- nor that of ended ones, one event later
 ended_up_one : (most : ℕ) (xs : List Span) → AllProper most xs → (i : ℕ) → counts_ended xs i ≤ counts_ended xs (suc i)
 ended_up_one most [] h i = omega arith
-ended_up_one most (y ∷ ys) h i = grind (arith, at_most_or_above, ended_past, ended_first, ended_up_one most ys h.1 (i - whole y))
+ended_up_one most (y ∷ ys) h i = grind (arith, at_most_or_above, ended_past, ended_up_one most ys h.1 (i - whole y), ended_cons, ended_zero, nat_tests)
 
 -- nor ever after
 pub ended_up : (most : ℕ) (xs : List Span) → AllProper most xs → (i j : ℕ) → i ≤ j → counts_ended xs i ≤ counts_ended xs j
@@ -216,7 +202,7 @@ find_cons :
     (n k : ℕ) → k < counts y.outcome + n → ((j : ℕ) → j < n → Found ys rest j) → Found (y ∷ ys) items k
 find_cons y ys items rest f n k l next =
     let here : List ℕ = items_of y.outcome in
-    let size : counts y.outcome ≡ length here = counts-items y.outcome in
+    let size : counts y.outcome ≡ length here = grind arith in
     elim (at_most_or_above (suc k) (counts y.outcome)) [
       | inl m ↦ (
           let at : slice_get here k ≡ Some (get_or here k 0) = slice_get-get_or here k 0 (omega (arith, m, size)) in
@@ -248,15 +234,11 @@ find_cons y ys items rest f n k l next =
           })
     ]
 
-if_true : (t : Bool) (xs : List ℕ) → t ≡ true → (if t then xs else []) ≡ xs
+pub if_true : (t : Bool) (xs : List ℕ) → t ≡ true → (if t then xs else []) ≡ xs
 if_true t xs e = rw e refl
 
 if_false : (t : Bool) (xs : List ℕ) → t ≡ false → (if t then xs else []) ≡ []
 if_false t xs e = rw e refl
-
--- the items of the first span, once its count write has begun, and those of the later spans
-pub begun_items_cons : (y : Span) (ys : List Span) (i : ℕ) → before_count y < i → begun_items (y ∷ ys) i ≡ items_of y.outcome ++ begun_items ys (i - whole y)
-begun_items_cons y ys i l = ap (λ (l : List ℕ). l ++ begun_items ys (i - whole y)) (if_true _ (items_of y.outcome) (grind (arith, nat_tests)))
 
 pub ended_items_cons : (y : Span) (ys : List Span) (i : ℕ) → whole y ≤ i → ended_items (y ∷ ys) i ≡ items_of y.outcome ++ ended_items ys (i - whole y)
 ended_items_cons y ys i l = ap (λ (l : List ℕ). l ++ ended_items ys (i - whole y)) (if_true _ (items_of y.outcome) (grind (arith, nat_tests)))
@@ -267,8 +249,8 @@ begun_find most [] h i k l = absurd (omega arith)
 begun_find most (y ∷ ys) h i k l = elim (at_most_or_above i (before_count y)) [
   | inl m ↦ absurd (omega (arith, l, begun_first most y ys i h.0 m))
   | inr m ↦ find_cons y ys (begun_items (y ∷ ys) i) (begun_items ys (i - whole y))
-      (begun_items_cons y ys i m) (counts_begun ys (i - whole y)) k
-      (omega (arith, begun_cons y ys i (i - whole y) (counts y.outcome) refl (lt_true (before_count y) i (counts y.outcome) m)))
+      (ap (λ (m : List ℕ). m ++ begun_items ys (i - whole y)) (if_true _ (items_of y.outcome) (grind (arith, nat_tests)))) (counts_begun ys (i - whole y)) k
+      (omega (arith, begun_cons y ys i (i - whole y) (counts y.outcome) refl (grind (arith, nat_tests))))
       (λ j g. begun_find most ys h.1 (i - whole y) j g)
 ]
 
@@ -276,7 +258,7 @@ begun_find most (y ∷ ys) h i k l = elim (at_most_or_above i (before_count y)) 
 pub ended_find : (most : ℕ) (xs : List Span) → AllProper most xs → (i k : ℕ) → k < counts_ended xs i → Found xs (ended_items xs i) k
 ended_find most [] h i k l = absurd (omega arith)
 ended_find most (y ∷ ys) h i k l = elim (at_most_or_above (whole y) i) [
-  | inr m ↦ absurd (omega (arith, l, ended_first most y ys i h.1 m))
+  | inr m ↦ absurd (grind (arith, l, ended_cons, ended_zero, nat_tests))
   | inl m ↦ find_cons y ys (ended_items (y ∷ ys) i) (ended_items ys (i - whole y))
       (ended_items_cons y ys i m) (counts_ended ys (i - whole y)) k
       (omega (arith, ended_cons y ys i (i - whole y) (counts y.outcome) refl (grind (arith, nat_tests))))
@@ -284,7 +266,7 @@ ended_find most (y ∷ ys) h i k l = elim (at_most_or_above (whole y) i) [
 ]
 
 length_if : (t : Bool) (o : Outcome) → length (if t then items_of o else []) ≡ (if t then counts o else 0)
-length_if t o = grind (arith, counts-items)
+length_if t o = grind arith
 
 -- there is an item for each count write that has begun
 pub length-begun_items : (xs : List Span) (i : ℕ) → length (begun_items xs i) ≡ counts_begun xs i
@@ -299,7 +281,7 @@ length-ended_items (y ∷ ys) i = grind (arith, length-append, length_if, length
 -- after the first span its items are among them
 pub begun_items_past :
     (most : ℕ) (y : Span) (ys : List Span) (i : ℕ) → Proper most y → whole y ≤ i → begun_items (y ∷ ys) i ≡ items_of y.outcome ++ begun_items ys (i - whole y)
-begun_items_past most y ys i h l = grind (arith, at_most_or_above, begun_items_cons, no-items, if_false, nat_tests, before-count)
+begun_items_past most y ys i h l = grind (arith, at_most_or_above, no-items, if_false, nat_tests, before-count, begun_items, whole, if_true, items_of)
 
 -- after the last span they are all items
 pub all_begun : (most : ℕ) (xs : List Span) → AllProper most xs → (i : ℕ) → total xs ≤ i → begun_items xs i ≡ all_items xs

@@ -71,9 +71,6 @@ pub few_puts : (shape : Shape) (h : List Event) (puts : Puts) → FollowsPuts sh
 few_puts shape h puts follows =
     grind (arith, length-events P (put_program shape puts), length-append (put_phrases shape first_count puts.puts) (close_phrase puts.closes), length, length-append)
 
-pub few_takes : (shape : Shape) (h : List Event) (takes : Takes) → FollowsTakes shape h takes → length (subhistory C h) ≤ events_in (take_program shape takes)
-few_takes shape h takes follows = grind (arith, length-events C (take_program shape takes), length, length-append)
-
 -- ---- the law at a moment
 
 pub within_at :

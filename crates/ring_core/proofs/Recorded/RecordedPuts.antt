@@ -26,11 +26,12 @@ use Rattle.ring_core.proofs.Readings.Cuts.{at_most_or_above}
 use Rattle.ring_core.proofs.OverSpans.RingOfSpans.{LawOfSpans}
 use Rattle.ring_core.proofs.Linear.PutTurns.{put_long, put_some, before_put_ends}
 use Rattle.ring_core.proofs.Linear.PutTurnFacts.{long_is}
-use Rattle.ring_core.proofs.Recorded.RecordedSpans.{stands_next, begun_here, counted_here}
+use Rattle.ring_core.proofs.Recorded.RecordedSpans.{begun_here, counted_here}
 use Rattle.ring_core.proofs.Recorded.RecordedCalls.{told_first, put_items, PutsBehind, puts_past}
 use Rattle.ring_core.proofs.Recorded.RecordedStates.{before_close, PutRuns, PutCloses, first_stored, take_view}
 use Rattle.ring_core.proofs.Recorded.RecordedMoments.{at_q, past_p, next_p, place_p, few_puts, within_at, prefix_at, Now, Stepped, by_events}
 use Rattle.ring_core.proofs.Recorded.TellsByOne.{between_told, last_told}
+use Rattle.ring_core.proofs.OverSpans.CallSpans.{stands_at}
 
 -- a put has at least two events
 put_two : (shape : Shape) (c : Count) (x : Put) → 2 ≤ put_long shape c x
@@ -60,7 +61,7 @@ module _ (shape : Shape) (offers : ℕ → List ℕ) (wants : ℕ → ℕ) (h : 
       length (put_items x) < length (offers b.made) → capacity_of shape ≤ inside + length (put_items x)
   lacks c stored (Stored seen items) more t p ended inside b place e l over fewer =
       let y = span_of P shape c (look seen (Passes items)) in
-      let st = stands_next (batch_of shape) (put_spans shape puts) p stored y _ b.spans_are in
+      let st = stands_at (put_spans shape puts) (p + 0) p (length stored + 0) (length stored) y (omega arith) (omega arith) (b.spans_are.stands 0 0 y (inl (refl, refl, refl))) in
       let n : ℕ = c.number % modulus_of shape in
       let first : items ≡ take (room_in shape n seen) (offers b.made) = b.offered.1 in
       let room : length items ≡ room_in shape n seen = ap length first ∙ took_all (room_in shape n seen) (offers b.made) (omega (arith, fewer, ap length first)) in
@@ -70,7 +71,7 @@ module _ (shape : Shape) (offers : ℕ → List ℕ) (wants : ℕ → ℕ) (h : 
       omega (arith, low, e, l)
   lacks c stored (Full seen) more t p ended inside b place e l over fewer =
       let y = span_of P shape c (look seen Stops) in
-      let st = stands_next (batch_of shape) (put_spans shape puts) p stored y _ b.spans_are in
+      let st = stands_at (put_spans shape puts) (p + 0) p (length stored + 0) (length stored) y (omega arith) (omega arith) (b.spans_are.stands 0 0 y (inl (refl, refl, refl))) in
       grind arith
 
   -- a put begins

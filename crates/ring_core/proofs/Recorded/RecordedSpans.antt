@@ -2,9 +2,10 @@
 use Rattle.std.proofs.Common.{◌≡◌, inl, inr, ℕ, ◌+◌, ◌-◌, ◌≤◌, List, [], ◌∷◌, ◌++◌, length, refl, sym, ap, ◌∙◌, arith, append_assoc, append-nil, length-append}
 use Rattle.bits_core.specs.Made.{IsPrefix}
 use Rattle.ring_core.proofs.OverSpans.Spans.{Span, counts, items_of, before_count, whole, counts_begun, counts_ended, begun_items, ended_items, IsSpanAt}
-use Rattle.ring_core.proofs.OverSpans.Timeline.{AllProper, counts-items, begun_items_past, begun_items_cons, begun_items_first, ended_items_cons, length-begun_items, length-ended_items, none_begun}
+use Rattle.ring_core.proofs.OverSpans.Timeline.{AllProper, begun_items_past, begun_items_first, ended_items_cons, length-begun_items, length-ended_items, none_begun, if_true}
 use Rattle.ring_core.proofs.Readings.Cuts.{at_most_or_above}
 use Rattle.ring_core.proofs.OverSpans.CallSpans.{stands_at}
+use Rattle.std.proofs.lemmas.Bool.Decides.{nat_tests}
 
 -- after the first of all spans, with their number of events and their items, come the rest
 pub record SpansBehind (most : ℕ) (all : List Span) (start : ℕ) (passed : List ℕ) (rest : List Span) : Type 0 where
@@ -32,16 +33,10 @@ spans_past most all start stop passed x rest e b = record {
       sym (append_assoc passed (items_of x.outcome) (ended_items rest j)));
   stands = λ s n y st.
       stands_at all (start + (whole x + s)) (stop + s) (length passed + (counts x.outcome + n)) (length (passed ++ items_of x.outcome) + n) y (omega (arith, e))
-      (omega (arith, length-append passed (items_of x.outcome), counts-items x.outcome))
+      (grind (arith, length-append passed (items_of x.outcome)))
       (b.stands (whole x + s) (counts x.outcome + n) y (inr (s, n, refl, refl, st)));
   proper = b.proper.1;
 }
-
--- the next one is there
-pub stands_next : (most : ℕ) (all : List Span) (start : ℕ) (passed : List ℕ) (x : Span) (rest : List Span) →
-    SpansBehind most all start passed (x ∷ rest) → IsSpanAt all start (length passed) x
-stands_next most all start passed x rest b =
-    stands_at all (start + 0) start (length passed + 0) (length passed) x (omega arith) (omega arith) (b.stands 0 0 x (inl (refl, refl, refl)))
 
 -- ---- what had begun and ended
 
@@ -70,7 +65,7 @@ counted_here most all start passed rest b = sym (length-begun_items all start) �
 first_begun : (x : Span) (rest : List Span) (j : ℕ) → j ≤ whole x → IsPrefix (begun_items (x ∷ rest) j) (items_of x.outcome)
 first_begun x rest j l = elim (at_most_or_above j (before_count x)) [
   | inl m ↦ (items_of x.outcome, ap (λ l. l ++ items_of x.outcome) (begun_items_first x rest j m (omega arith)))
-  | inr m ↦ grind (arith, append-nil, begun_items_cons, none_begun)
+  | inr m ↦ grind (arith, append-nil, none_begun, begun_items, whole, if_true, items_of, nat_tests)
 ]
 
 pub begun_within : (most : ℕ) (all : List Span) (start : ℕ) (passed : List ℕ) (x : Span) (rest : List Span) (i : ℕ) → start ≤ i → i ≤ start + whole x →

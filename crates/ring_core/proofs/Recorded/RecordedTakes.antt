@@ -33,12 +33,13 @@ use Rattle.ring_core.proofs.OwnEvents.{clock_rises}
 use Rattle.ring_core.proofs.OverSpans.CallSpans.{stands_at, take_phrase-item, take_phrase-after, take_phrase-empty}
 use Rattle.ring_core.proofs.CallCounts.{phrase_some}
 use Rattle.ring_core.proofs.Linear.TakeTurns.{take_long, end_long, end_some}
-use Rattle.ring_core.proofs.Recorded.RecordedSpans.{stands_next, counted_here}
+use Rattle.ring_core.proofs.Recorded.RecordedSpans.{counted_here}
 use Rattle.ring_core.proofs.Recorded.RecordedCalls.{told_first, TakesBehind, takes_past}
 use Rattle.ring_core.proofs.Recorded.RecordedStates.{before_close, IsClosing, TakeAt, TakeRuns, TakeEnds, put_view}
-use Rattle.ring_core.proofs.Recorded.RecordedMoments.{at_p, at_q, past_q, next_q, few_takes, within_at, prefix_at, Now, Stepped, by_events, place_here}
+use Rattle.ring_core.proofs.Recorded.RecordedMoments.{at_p, at_q, past_q, next_q, within_at, prefix_at, Now, Stepped, by_events, place_here}
 use Rattle.ring_core.proofs.Recorded.TellsByOne.{between_told, last_told}
 use Rattle.bits_core.proofs.LawLemmas.{subhistory_has_place}
+use Rattle.ring_core.proofs.Machines.Following.{length-events}
 
 -- a take has at least two events
 take_two : (shape : Shape) (c : Count) (x : Take) → 2 ≤ take_long shape c x
@@ -77,7 +78,7 @@ module _ (shape : Shape) (offers : ℕ → List ℕ) (wants : ℕ → ℕ) (h : 
   none_inside c taken seen more t p q stored inside b place ep eq ended l over =
       let y = span_of C shape c (look seen (Asks false)) in
       let most : ℕ = take_batch_of shape in
-      let st = stands_next most (take_spans shape takes) q taken y _ b.spans_are in
+      let st = stands_at (take_spans shape takes) (q + 0) q (length taken + 0) (length taken) y (omega arith) (omega arith) (b.spans_are.stands 0 0 y (inl (refl, refl, refl))) in
       let long = take_phrase-empty shape c seen in
       let (fresh, opened) = law.empty q (length taken) y st refl (omega (arith, over, long)) t place in
       let here : q + 0 ≡ q = omega arith in
@@ -109,7 +110,7 @@ module _ (shape : Shape) (offers : ℕ → List ℕ) (wants : ℕ → ℕ) (h : 
       q + take_long shape c x ≤ length (subhistory C h) → length (taken_of x) < wants b.made → inside ≤ length (taken_of x)
   lacks c taken (Item seen items) more t p q stored inside b place ep eq ended l over fewer =
       let y = span_of C shape c (look seen (Passes items)) in
-      let st = stands_next (take_batch_of shape) (take_spans shape takes) q taken y _ b.spans_are in
+      let st = stands_at (take_spans shape takes) (q + 0) q (length taken + 0) (length taken) y (omega arith) (omega arith) (b.spans_are.stands 0 0 y (inl (refl, refl, refl))) in
       let shown : distance (modulus_of shape) seen (c.number % modulus_of shape) ≡ length items = grind arith in
       let few = drained c taken seen items t q st b.number shown b.are.0.1.some (omega (arith, over, take_phrase-item shape c seen items)) (omega (arith, eq)) in
       omega (arith, few, ended, l, ap (counts_ended (put_spans shape puts)) ep)
@@ -131,7 +132,7 @@ module _ (shape : Shape) (offers : ℕ → List ℕ) (wants : ℕ → ℕ) (h : 
   opened c taken (Item seen items) more t p q stored inside shut b place ep eq ended l is_shut next over none = absurd (omega (arith, b.are.0.1.some, ap length none))
   opened c taken (ItemAfterClose seen again items) more t p q stored inside shut b place ep eq ended l is_shut next over none = grind arith
   opened c taken (Empty seen) more t p q stored inside shut b place ep eq ended l is_shut next over none =
-      grind (arith, none_inside c taken seen more t p q stored inside b place ep eq ended l over, few_takes)
+      grind (arith, none_inside c taken seen more t p q stored inside b place ep eq ended l over, length-events, length, length-append)
 
   -- a take begins
   take_begins :
@@ -371,7 +372,7 @@ module _ (shape : Shape) (offers : ℕ → List ℕ) (wants : ℕ → ℕ) (h : 
       (t p q : ℕ) (e : Event) (rest : List Event) (k : Kept) → e.side ≡ C → (now : Here t p q (e ∷ rest) k) →
       (c : Count) (more : List Take) → TakesBehind shape wants takes c q now.taken more → k.take ≡ Rests → Stepped shape offers wants h puts takes (suc t) p (suc q) rest k (told q)
   take_idle t p q e rest k by now c [] b rests = elim (is_end takes.end) [
-    | inl none ↦ absurd (omega (arith, next_q h t p q e rest by now.moment, few_takes shape h takes run.takes_follow, b.all, ap (λ d. events_in (end_phrase d)) none))
+    | inl none ↦ absurd (grind (arith, next_q h t p q e rest by now.moment, b.all, ap (λ d. events_in (end_phrase d)) none, length-events C (take_program shape takes), length, length-append))
     | inr (seen, again, is) ↦ end_begins t p q e rest k by now c seen again is b rests
   ]
     where
@@ -392,5 +393,5 @@ module _ (shape : Shape) (offers : ℕ → List ℕ) (wants : ℕ → ℕ) (h : 
       | inl l ↦ end_ends t p q e rest k by now r (omega (arith, l, r.not_ended))
       | inr l ↦ end_goes_on t p q e rest k by now r l
     ]
-    | inr (inr (inr r)) ↦ absurd (omega (arith, r.ended, next_q h t p q e rest by now.moment, few_takes shape h takes run.takes_follow))
+    | inr (inr (inr r)) ↦ absurd (grind (arith, r.ended, next_q h t p q e rest by now.moment, length-events C (take_program shape takes), length, length-append))
   ]
