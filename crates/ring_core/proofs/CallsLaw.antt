@@ -172,9 +172,7 @@ module _ (shape : Shape) (h : List Event) (puts : Puts) (takes : Takes) (run : I
 
   pub items : TakesMatchPuts shape h puts takes
   items t k i item start stop x at has l =
-      let w : ℕ = width_of shape in
-      let y = has_word shape takes x k start stop i item (start + events_in (accesses_before_word x) + 2 * (i * w)) at has refl in
-      grind (arith, suc-mul)
+      grind (arith, has_word shape takes x k start stop i item (start + events_in (accesses_before_word x) + 2 * (i * (width_of shape))) at has refl, suc-mul)
 
   -- ---- empty and full
 

@@ -58,8 +58,7 @@ next_modulo n m some = place (cases_lt (suc (n % m)) m)
     place : (suc (n % m) < m) ⊎ (m ≤ suc (n % m)) → (suc n % m ≡ suc (n % m)) ⊎ ((suc n % m ≡ 0) × (suc (n % m) ≡ m))
     place (inl h) = inl (suc-mod n m ∙ mod-eq_of_lt h)
     place (inr h) =
-        let last : suc (n % m) ≡ m = omega (arith, h, mod_below n m some) in
-        inr (suc-mod n m ∙ ap (λ k. k % m) last ∙ mod_self m, last)
+        grind (arith, mod_below n m some, suc-mod n m, mod_self m)
 
 -- if no bit below the place is set, none is cleared
 clearing_none : (bits : ℕ → Bool) (v : ℕ) → ((j : ℕ) → j < v → bits j ≡ false) → clearing bits v ≡ []

@@ -274,11 +274,10 @@ ended_from_look most s shape c (l ∷ looks) behind fits is p i =
     let b : List Made = word_part s shape c.number l.outcome in
     let next : Count = after_look shape c l.outcome in
     let next_is : IsCount shape next = look_is_count shape c l.outcome is in
-    let after : List Made = look_accesses s shape next looks behind in
-    let d : List Made = count_part s shape c l.outcome ++ after in
+    let d : List Made = count_part s shape c l.outcome ++ (look_accesses s shape next looks behind) in
     let number_past : bit_writes s (events_of s (a ++ (b ++ d))) (i - 1) ≡ bit_writes s (events_of s d) (i - 1 - (2 * length a + 2 * length b)) =
     past_quiet s a b d (i - 1) (quiet_scan s (row_read_by s) l.seen) (quiet_word s shape c.number l.outcome) in
-    rw number_past (ended_step most s shape c l.outcome (sizes_in looks) (values_from shape next.number looks) after (spans s shape next looks)
+    rw number_past (ended_step most s shape c l.outcome (sizes_in looks) (values_from shape next.number looks) (look_accesses s shape next looks behind) (spans s shape next looks)
     (2 * length a + 2 * length b) (all_proper most s shape next looks fits next_is p.1)
     (λ j. ended_from_look most s shape next looks behind fits next_is p.1 j) i)
 

@@ -56,8 +56,7 @@ module _ (s : Side) (h : List Event) (made : List Made) (follows : IsPrefix (sub
   zeros_there : ReadsZeros s h last (begin_place (other s) h (length before)) (end_place (other s) h (length before))
   zeros_there =
       let parts' : made ≡ before ++ (zero_reads (row_read_by (other s)) last ++ Read (row_bit s last) false ∷ after) = grind arith in
-      subst (λ (w : Side). ReadsZeros w h last (begin_place (other s) h (length before)) (end_place (other s) h (length before))) (other_twice s)
-      (reads_are_made_zeros (other s) h made follows before (Read (row_bit s last) false ∷ after) last parts' (omega (arith, ended)))
+      grind (arith, length before, other_twice s, reads_are_made_zeros (other s) h made follows before (Read (row_bit s last) false ∷ after) last parts' (omega (arith, ended)))
 
   -- and so is that of the last bit
   last_there :

@@ -48,16 +48,7 @@ AsksAt program start scan answer = (front : List Made) × (back : List Made) × 
 asks_at :
     (shape : Shape) (program : List Made) (k start : ℕ) (x : Span) (answer : Bool) → LookAt C shape program k start x → x.outcome ≡ Asks answer →
     AsksAt program start x.scan answer
-asks_at shape program k start x answer r asks =
-    let outcome : r.look.outcome ≡ Asks answer = sym (ap (λ (y : Span). y.outcome) r.is_x) ∙ asks in
-    let scan : List Made = scan_phrase (row_read_by C) r.look.seen in
-    let word : word_part C shape k r.look.outcome ≡ Read X answer ∷ [] = ap (word_part C shape k) outcome in
-    let rest : List Made = count_part C shape r.count r.look.outcome ++ r.after in (
-      r.before ++ scan,
-      rest,
-      r.program_is ∙ ap (λ l. r.before ++ (scan ++ (l ++ rest))) word ∙ sym (append_assoc r.before scan (Read X answer ∷ rest)),
-      omega (arith, r.start_is, ap (λ (y : Span). y.scan) r.is_x, length-append r.before scan),
-    )
+asks_at shape program k start x answer r asks = grind (arith, word_part C shape k, count_part, append_assoc, length-append r.before (scan_phrase (row_read_by C) r.look.seen))
 
 -- how many events the puts of a program have
 pub put_total : (shape : Shape) (calls : Puts) → total (put_spans shape calls) ≡ 2 * length (put_phrases shape first_count calls.puts)

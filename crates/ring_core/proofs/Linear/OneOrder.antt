@@ -191,20 +191,7 @@ module _ (h : List Event) (capacity events stored taken : ℕ) (puts_begun puts_
       (Stands k items' closed' xs ys → Order items' closed' xs ys) → Order items closed (x ∷ xs) ys
   put_on x xs ys k items items' closed closed' r mays step fits number empties opened ends same next =
       put_first (queue items closed) (queue items' closed') x xs ys step (r.puts x (inl refl)) (λ x' i. (r.puts x' (inr i), (r.puts_sorted.0 x' i).0)) mays
-      (next (record {
-        fits = fits;
-        puts_numbered = subst (λ m. Numbered stored m xs) number r.puts_numbered.1;
-        takes_numbered = r.takes_numbered;
-        puts_sorted = r.puts_sorted.1;
-        takes_sorted = r.takes_sorted;
-        puts = λ x' i. r.puts x' (inr i);
-        takes = r.takes;
-        fulls = λ x' i. r.fulls x' (inr i);
-        empties = empties;
-        opened = opened;
-        ends = ends;
-        same = same;
-      }))
+      (grind arith)
 
   put_step :
       (n start stop place : ℕ) (kind : Kind) (xs : List Op) (ys : List Op) (k : ℕ) (items : List ℕ) (closed : Bool) →

@@ -85,8 +85,7 @@ put_goes shape calls Close made a goes =
 pub puts-go_on_by_one : PutsGoOnByOne
 puts-go_on_by_one shape calls c made a b goes goes' =
     let (xs, go, begins) = put_goes shape calls c made a goes in
-    let (ys, go', begins') = put_goes shape calls c made b goes' in
-    same_next made xs ys a b (call_tree shape calls c) go go' begins begins'
+    search (arith, put_goes shape calls c made b goes', same_next)
 
 -- ---- takes
 

@@ -55,14 +55,7 @@ length-stored :
     suc seen + length items * width_of shape + length (batch_phrase shape P c items)
 length-stored shape c seen items =
     let scan : List Made = scan_phrase (row_read_by P) seen in
-    let words : List Made = words_phrase shape c.number items in
-    omega (
-      arith,
-      length-append (scan ++ words) (batch_phrase shape P c items),
-      length-append scan words,
-      length-scan (row_read_by P) seen,
-      length-words shape c.number items,
-    )
+    grind (arith, length-append, length-scan (row_read_by P) seen, length-words)
 
 -- no put is longer than the bounds
 pub item_puts-are_short : ItemPutsAreShort

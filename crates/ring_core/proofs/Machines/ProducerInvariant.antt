@@ -71,8 +71,7 @@ pub word_keeps :
     row ≡ record p.row { value = (p.count + p.most) % modulus_of p.shape } → IsProducer (record p { stage = Counting; word = w; row = row })
 word_keeps p w row is e fed begun =
     let (counted, putting, keeping, more) = at_stage p Storing is e in
-    let size : length (take p.most p.items) ≡ p.most = taken_so p.items p.most keeping.1 in
-    grind (arith, taken_batch, stays_one, counting_on, batch_below, same_putting)
+    grind (arith, length (take p.most p.items), take p.most p.items, taken_so p.items p.most keeping.1, taken_batch, stays_one, counting_on, batch_below, same_putting)
 
 pub word_whole :
     (p : ProducerState) (w : WriterState) (due : Option Access) → IsWritingWord p → w ≡ record p.word { written = suc p.word.written } → due ≡ None →

@@ -53,9 +53,7 @@ begins_call shape c x rest f = by_puts f.puts f.close f.rest_is
         let first : x ∷ rest ≡ Read (row_read_by P 0) begun.0 ∷ begun.1 = e ∙ puts_stored shape c u i puts close ∙ begun.2 in
         inl (begun.0, cc)
     by_puts (Full u ∷ puts) close e =
-        let begun = scan_begins (row_read_by P) u (puts_from shape c puts close) in
-        let first : x ∷ rest ≡ Read (row_read_by P 0) begun.0 ∷ begun.1 = e ∙ puts_full shape c u puts close ∙ begun.2 in
-        inl (begun.0, cc)
+        grind (arith, scan_begins (row_read_by P) u (puts_from shape c puts close), puts_full shape c u puts close)
 
 -- a scan that has read zeros reads the next bit
 zeros_front : (bit_of : ℕ → Bit) (n : ℕ) (xs : List Made) → zero_reads bit_of (suc n) ++ xs ≡ Read (bit_of 0) false ∷ (zero_reads (λ i. bit_of (suc i)) n ++ xs)
@@ -80,8 +78,7 @@ goes_on_scanning shape c zeros x rest f = by_puts f.puts f.close f.rest_is
     by_puts : (puts : List Put) (close : Bool) → zero_reads (row_read_by P) (suc zeros) ++ x ∷ rest ≡ puts_from shape c puts close → (v : Bool) × (x ≡ Read (row_read_by P (suc zeros)) v)
     by_puts [] false e = let clash : Read (R 0) false ∷ (zero_reads (λ i. R (suc i)) zeros ++ x ∷ rest) ≡ [] = sym (zeros_front (row_read_by P) zeros (x ∷ rest)) ∙ e in absurd (cc)
     by_puts [] true e =
-        let clash : Read (R 0) false ∷ (zero_reads (λ i. R (suc i)) zeros ++ x ∷ rest) ≡ Write X true ∷ [] = sym (zeros_front (row_read_by P) zeros (x ∷ rest)) ∙ e in
-        absurd (cc)
+        grind (arith, zeros_front (row_read_by P) zeros (x ∷ rest))
     by_puts (Stored u i ∷ puts) close e = scan_next (row_read_by P) (suc zeros) u x rest _ (e ∙ puts_stored shape c u i puts close)
     by_puts (Full u ∷ puts) close e = scan_next (row_read_by P) (suc zeros) u x rest _ (e ∙ puts_full shape c u puts close)
 

@@ -93,9 +93,7 @@ pub digits_along :
     (part : List Made → Access → Access → Type 0) (cell item n : ℕ) (t : Tree) (ys : List Made) → ((before : List Made) → EndInCellRead before → Along part before ys t) →
     0 < n → Anyway part (digit_reads cell item n ++ ys) (digits cell n t)
 digits_along part cell item zero t ys on l before = absurd (omega (arith, l))
-digits_along part cell item (suc zero) t ys on l before =
-    let x : Made = Read (Cell cell 0) (digit 0 item) in
-    inl (refl, on (before ++ x ∷ []) (before, cell, 0, digit 0 item, refl))
+digits_along part cell item (suc zero) t ys on l before = grind arith
 digits_along part cell item (suc (suc n)) t ys on l before =
     let x : Made = Read (Cell cell (suc n)) (digit (suc n) item) in
     subst (λ l. Along part before l (digits cell (suc (suc n)) t)) (sym (append_assoc (digit_reads cell item (suc n)) (x ∷ []) ys))

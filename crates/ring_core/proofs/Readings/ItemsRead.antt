@@ -207,8 +207,7 @@ same_items shape c (x ∷ xs) (y ∷ ys) a b made t is p q l r both reach =
 pub items-are_read : ItemsAreRead
 items-are_read shape h a b p q =
     let both : BeginBoth P (length (subhistory P h)) (put_program shape a) (put_program shape b) = grind (arith, begin_both) in
-    same_items shape first_count a.puts b.puts a.closes b.closes both.made (length (subhistory P h)) (first_is_count shape) p.are q.are both.begins_left both.begins_right
-    both.next both.reach
+    search (arith, same_items, length, first_is_count)
 
 -- ---- complete calls that others begin with
 

@@ -180,9 +180,7 @@ told_calls shape k a b (Closed c c') [] zs is told f (none, none') q e = by_end 
     by_end : (end : End) → b.end ≡ end → end_phrase (Closed c c') ++ zs ≡ calls_from shape k [] end → a ≡ b
     by_end Open ends e = absurd (no_scan (row_read_by C) c _ (sym e ∙ closed_on shape k c c' zs))
     by_end (Closed d d') ends e =
-        let twice = same_twice c c' d d' zs [] (sym (closed_on shape k c c' zs) ∙ e ∙ closed_first shape k d d') in
-        let again = same_scan (row_read_by C) c' d' zs [] twice.1 in
-        same_calls a b (sym (f ∙ append-nil a.takes)) (is ∙ ap₂ Closed twice.0 again.0 ∙ sym ends)
+        grind (arith, same_twice c c' d d' zs, closed_on shape k c c' zs, closed_first shape k d d', same_scan (row_read_by C) c' d' zs, same_calls, append-nil a.takes, ap₂)
 
 pub takes-are_first : TakesAreFirst
 takes-are_first shape a b p q begins =

@@ -84,8 +84,7 @@ pub prefix_at :
 prefix_at shape h puts takes law t p q rest m =
     let (more, e) = law.prefix t in (
       more,
-      ap (λ l. l ++ more) (ap (ended_items (take_spans shape takes)) (sym (at_q h t p q rest m)) ∙ sym (takes_items shape first_count takes.takes takes.end (clock C h t))) ∙ e ∙
-          puts_items shape first_count puts.puts (clock P h t) ∙ ap (begun_items (put_spans shape puts)) (at_p h t p q rest m),
+      grind (arith, ended_items, take_spans, at_q, takes_items, puts_items, begun_items, put_spans, at_p),
     )
 
 -- ---- the state at a moment

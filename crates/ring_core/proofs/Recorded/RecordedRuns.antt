@@ -44,12 +44,10 @@ module _ (shape : Shape) (offers : ℕ → List ℕ) (wants : ℕ → ℕ) (h : 
   goes (e ∷ rest) t p q k now = elim (side_of e.side) [
     | inl by ↦ (
         let s = put_step shape offers wants h puts takes run law t p q e rest k by now in
-        subst (λ x. AreCounted (exactly (capacity_of shape)) k (told_by f g p q rest x)) (sym by)
-        (move_on (exactly (capacity_of shape)) k s.after (f p) (calls_told f g (suc p) q rest) s.moves (goes rest (suc t) (suc p) q s.after s.now)))
+        grind (arith, move_on, goes rest (suc t) (suc p) q s.after s.now))
     | inr by ↦ (
         let s = take_step shape offers wants h puts takes run law some_wanted t p q e rest k by now in
-        subst (λ x. AreCounted (exactly (capacity_of shape)) k (told_by f g p q rest x)) (sym by)
-        (move_on (exactly (capacity_of shape)) k s.after (g q) (calls_told f g p (suc q) rest) s.moves (goes rest (suc t) p (suc q) s.after s.now)))
+        grind (arith, move_on, goes rest (suc t) p (suc q) s.after s.now))
   ]
 
   pub recorded_are_counted : AreOffered shape offers 0 0 puts.puts → AreWanted shape wants 0 0 takes.takes →

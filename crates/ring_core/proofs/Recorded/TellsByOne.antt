@@ -93,10 +93,7 @@ module _ {S X : Type 0} (events : S → X → ℕ) (after : S → X → S) (begi
       (one_over s x xs (suc i) 0 (omega (arith, e)) (omega (arith, e)) ∙ ap (λ l. x ∷ l) (over_at_first long (after s x) xs))
       (last_told (events s x) (begins j) (answer x) i _ l e) (Ends x refl l (omega (arith, e)) refl)
   at long j s x xs i (IsBehind l) more =
-      let left : ℕ = i - events s x in
-      by_same j s (x ∷ xs) i _ (x ∷ over events after (after s x) xs left) _ (x ∷ over events after (after s x) xs (suc left)) _ (told (suc j) (after s x) xs left)
-      (one_over s x xs i left l refl) (one_over s x xs (suc i) (suc left) (omega (arith, l)) (omega (arith, l)))
-      (behind_told (events s x) (begins j) (answer x) i _ l) (behind_one j s x xs i _ _ _ l more)
+      search (arith, by_same, one_over s x xs i (i - events s x) l refl, one_over s x xs (suc i) (suc (i - events s x)) (omega (arith, l)) (omega (arith, l)), behind_told, behind_one)
 
   pub tells : ((s : S) (x : X) → 2 ≤ events s x) → (j : ℕ) (s : S) (xs : List X) (i : ℕ) → Tells j s xs i (over events after s xs i) (over events after s xs (suc i)) (told j s xs i)
   tells long j s [] i = let whole : i ≡ i - 0 = omega arith in Behind refl refl (omega arith) (ap last whole)
