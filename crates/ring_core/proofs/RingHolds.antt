@@ -27,7 +27,7 @@ use Rattle.ring_core.proofs.OverSpans.SpanLaw.{SpanLaw, span_law, IsToldAt, Last
 use Rattle.ring_core.proofs.HistoryClocks.{clocks_of}
 use Rattle.ring_core.proofs.OwnEvents.{clock_within, clock_end, clock_rises, one_place}
 use Rattle.ring_core.proofs.Machines.Following.{length-events}
-use Rattle.ring_core.proofs.OverSpans.Looks.{puts_as_looks, takes_as_looks, proper_puts, proper_takes, total_is, words_are, asks_word, puts_items, takes_items, put_fits, take_fits, last_two, take_rule, put_rule, look_at}
+use Rattle.ring_core.proofs.OverSpans.Looks.{puts_as_looks, takes_as_looks, proper_puts, proper_takes, total_is, look_from_first, words_are, asks_word, puts_items, takes_items, put_rules, take_rules, put_fits, take_fits, last_two}
 use Rattle.ring_core.proofs.CountRow.{has_batch}
 use Rattle.ring_core.proofs.Cells.CellPlaces.{doubled, multiple_up}
 use Rattle.ring_core.proofs.OverSpans.RegularScans.{put_events, take_events, puts_regular, takes_regular}
@@ -48,7 +48,20 @@ AsksAt program start scan answer = (front : List Made) × (back : List Made) × 
 asks_at :
     (shape : Shape) (program : List Made) (k start : ℕ) (x : Span) (answer : Bool) → LookAt C shape program k start x → x.outcome ≡ Asks answer →
     AsksAt program start x.scan answer
-asks_at shape program k start x answer r asks = grind (arith, word_part C shape k, count_part, append_assoc, length-append r.before (scan_phrase (row_read_by C) r.look.seen))
+asks_at shape program k start x answer r asks =
+    let outcome : r.look.outcome ≡ Asks answer = sym (ap (λ (y : Span). y.outcome) r.is_x) ∙ asks in
+    let scan : List Made = scan_phrase (row_read_by C) r.look.seen in
+    let word : word_part C shape k r.look.outcome ≡ Read X answer ∷ [] = ap (word_part C shape k) outcome in
+    let rest : List Made = count_part C shape r.count r.look.outcome ++ r.after in (
+      r.before ++ scan,
+      rest,
+      r.program_is ∙ ap (λ l. r.before ++ (scan ++ (l ++ rest))) word ∙ sym (append_assoc r.before scan (Read X answer ∷ rest)),
+      omega (arith, r.start_is, ap (λ (y : Span). y.scan) r.is_x, length-append r.before scan),
+    )
+
+-- the two places of the producer's and the consumer's events
+own_ends : (s : Side) (h : List Event) (i place : ℕ) → IsPlace (clock s h) i place → i < length (subhistory s h)
+own_ends s h i place (here, past) = omega (arith, past, clock_within s h (suc place))
 
 -- how many events the puts of a program have
 pub put_total : (shape : Shape) (calls : Puts) → total (put_spans shape calls) ≡ 2 * length (put_phrases shape first_count calls.puts)
@@ -73,10 +86,10 @@ module _ (shape : Shape) (h : List Event) (puts : Puts) (takes : Takes) (run : I
       let program : List Made = look_accesses C shape first_count (take_looks takes.takes takes.end) [] in
       let follows : IsPrefix (subhistory C h) (events_of C program) = take_events shape h takes run.takes_follow in
       let (front, back, program_is, start_is) =
-      asks_at shape program k s x answer (grind (arith, look_at C shape first_count (take_looks takes.takes takes.end) [] s k x st)) asks in
+      asks_at shape program k s x answer (look_from_first C shape (take_looks takes.takes takes.end) [] s k x st) asks in
       let word : x.word ≡ 2 = asks_word C shape (take_looks takes.takes takes.end) s k x answer st asks in
       let e_is : e ≡ suc (2 * length front) = omega (arith, ends, word, start_is) in
-      let last_own : suc (2 * length front) < length (subhistory C h) = grind (arith, e_is, clock_within) in
+      let last_own : suc (2 * length front) < length (subhistory C h) = omega (arith, own_ends C h e last is_last, e_is) in
       let x_at : slice_get program (length front) ≡ Some (Read X answer) = ap (λ l. slice_get l (length front)) program_is ∙ there front (Read X answer) back in
       let (stop, made_at) = made_is_access C h program follows (length front) (Read X answer) x_at (omega (arith, last_own)) in
       let (stop_is, answers) = made_at.ended last_own in
@@ -97,8 +110,8 @@ module _ (shape : Shape) (h : List Event) (puts : Puts) (takes : Takes) (run : I
     modulus_fits_takes = omega (arith, shape.room_to_take);
     has_more = shape.has_take_batch;
     clocks = clocks_of h;
-    puts_rule = λ s n x st. subst (λ i. clocks.IsPutSpan (modulus_of shape) (capacity_of shape) i x) (from_none n) (grind (arith, put_rule));
-    takes_rule = λ s k x st. subst (λ i. clocks.IsTakeSpan (modulus_of shape) (capacity_of shape) i x) (from_none k) (grind (arith, take_rule));
+    puts_rule = λ s n x st. subst (λ i. clocks.IsPutSpan (modulus_of shape) (capacity_of shape) i x) (from_none n) (put_rules shape first_count puts.puts run.puts_follow.are s n x st);
+    takes_rule = λ s k x st. subst (λ i. clocks.IsTakeSpan (modulus_of shape) (capacity_of shape) i x) (from_none k) (take_rules shape first_count takes.takes takes.end run.takes_follow.are s k x st);
     puts_regular = puts_regular shape h run.lawful puts takes run.puts_follow run.takes_follow;
     takes_regular = takes_regular shape h run.lawful puts takes run.puts_follow run.takes_follow;
     words_safe = words_are_safe shape h run.lawful (put_looks puts.puts) (take_looks takes.takes takes.end) (close_phrase puts.closes)

@@ -105,6 +105,9 @@ move_not_miss k a b = grind arith
 pub move_not_end : (k : Kind) → IsMove k → IsEnd k → ⊥
 move_not_end k a b = grind arith
 
+end_not_miss : (k : Kind) → IsEnd k → IsMiss k → ⊥
+end_not_miss k a b = grind arith
+
 -- What the queue needs: number k is dequeued after it is enqueued, and after each operation that finds the queue full and would
 -- find it not full without number k; the queue is found closed after all operations of the producer.
 abbrev pub Needs : ℕ → Kind → ℕ → Kind → ℕ → Type 0
@@ -148,9 +151,24 @@ find_must h capacity (x ∷ xs) y = grind (arith, decide_must h capacity x y, fi
 
 module _ (h : List Event) (capacity events stored : ℕ) (puts_begun puts_ended takes_begun takes_ended : ℕ → ℕ)
     (tallies : Tallies h capacity puts_begun puts_ended takes_begun takes_ended) where
+  -- what ended before an operation of the consumer began may precede a later one
+  may_by_time :
+      (x x' : Op) (y y' : Op) → PutFact h capacity events puts_begun puts_ended takes_ended x →
+      TakeFact h events stored puts_ended takes_begun takes_ended y → TakeFact h events stored puts_ended takes_begun takes_ended y' →
+      GoesTo x x' → GoesTo y y' → x'.stop ≤ clock P h y.place → May h capacity x y'
+  may_by_time x x' y y' px qy qy' xx yy l = grind (arith, at_most_or_above)
+
+  -- and so may what the queue needs before it
+  may_by_need :
+      (x x' : Op) (y y' : Op) → PutFact h capacity events puts_begun puts_ended takes_ended x → PutFact h capacity events puts_begun puts_ended takes_ended x' →
+      TakeFact h events stored puts_ended takes_begun takes_ended y → TakeFact h events stored puts_ended takes_begun takes_ended y' →
+      GoesTo x x' → GoesTo y y' → (IsMove x.kind → x.number < stored) →
+      (ky : Kind) (kx : Kind) → y.kind ≡ ky → x'.kind ≡ kx → Needs capacity ky y.number kx x'.number → May h capacity x y'
+  may_by_need x x' y y' px px' qy qy' xx yy below ky kx ey ex l = grind (arith, at_most_or_above, end_not_miss)
+
   -- what precedes an operation that must precede y may precede each operation that does not precede y
   pub may :
       (x x' : Op) (y y' : Op) → PutFact h capacity events puts_begun puts_ended takes_ended x → PutFact h capacity events puts_begun puts_ended takes_ended x' →
       TakeFact h events stored puts_ended takes_begun takes_ended y → TakeFact h events stored puts_ended takes_begun takes_ended y' →
       GoesTo x x' → GoesTo y y' → (IsMove x.kind → x.number < stored) → Must h capacity x' y → May h capacity x y'
-  may x x' y y' px px' qy qy' xx yy below h1 = grind (arith, at_most_or_above)
+  may x x' y y' px px' qy qy' xx yy below h1 = grind (arith, may_by_time, may_by_need)

@@ -138,12 +138,18 @@ look_at s shape c (l ∷ looks) behind start m x (inr st) =
 pub word_length : (s : Side) (shape : Shape) (n : ℕ) (o : Outcome) → 1 ≤ counts o → length (word_part s shape n o) ≡ counts o * width_of shape
 word_length s shape n o e = grind (arith, length-words, length-words_read)
 
+-- also given its number alone, in a whole program
+pub look_from_first :
+    (s : Side) (shape : Shape) (looks : List Look) (behind : List Made) (start m : ℕ) (x : Span) →
+    IsSpanAt (spans s shape first_count looks) start m x → LookAt s shape (look_accesses s shape first_count looks behind) m start x
+look_from_first s shape looks behind start m x st = grind (arith, look_at s shape first_count looks behind start m x st)
+
 -- the same for a span that counts some items
 pub words_are :
     (s : Side) (shape : Shape) (looks : List Look) (start m : ℕ) (x : Span) →
     IsSpanAt (spans s shape first_count looks) start m x → 1 ≤ counts x.outcome → x.word ≡ 2 * (counts x.outcome * width_of shape)
 words_are s shape looks start m x st e =
-    let r : LookAt s shape (look_accesses s shape first_count looks []) m start x = grind (arith, look_at s shape first_count looks [] start m x st) in
+    let r : LookAt s shape (look_accesses s shape first_count looks []) m start x = look_from_first s shape looks [] start m x st in
     grind (arith, word_length)
 
 -- a read of the close bit has two events
@@ -151,7 +157,7 @@ pub asks_word :
     (s : Side) (shape : Shape) (looks : List Look) (start m : ℕ) (x : Span) (answer : Bool) →
     IsSpanAt (spans s shape first_count looks) start m x → x.outcome ≡ Asks answer → x.word ≡ 2
 asks_word s shape looks start m x answer st e =
-    let r : LookAt s shape (look_accesses s shape first_count looks []) m start x = grind (arith, look_at s shape first_count looks [] start m x st) in
+    let r : LookAt s shape (look_accesses s shape first_count looks []) m start x = look_from_first s shape looks [] start m x st in
     grind arith
 
 -- ---- the items
@@ -250,15 +256,27 @@ takes_keep shape k (ItemAfterClose seen again items ∷ takes) end (((below, non
     grind (arith, not_shown, takes_keep shape (number_past k items) takes end h)
 takes_keep shape k (Empty seen ∷ takes) end ((below, none), h) = grind (arith, not_shown, takes_keep shape k takes end h)
 
-pub put_rule :
+put_rule :
     (shape : Shape) (c : Count) (puts : List Put) → ArePuts shape c.number puts →
     (start m : ℕ) (x : Span) → IsSpanAt (spans P shape c (put_looks puts)) start m x → PutRule shape (c.number + m) x.seen x.outcome
 put_rule shape c puts h = each_at (PutRule shape) P shape c (put_looks puts) (puts_keep shape c.number puts h)
 
-pub take_rule :
+-- each put keeps the rule of puts
+pub put_rules :
+    (shape : Shape) (c : Count) (puts : List Put) → ArePuts shape c.number puts →
+    (start m : ℕ) (x : Span) → IsSpanAt (spans P shape c (put_looks puts)) start m x → clocks.IsPutSpan (modulus_of shape) (capacity_of shape) (c.number + m) x
+put_rules shape c puts h start m x st = grind (arith, put_rule)
+
+take_rule :
     (shape : Shape) (c : Count) (takes : List Take) (end : End) → AreTakes shape c.number takes end →
     (start m : ℕ) (x : Span) → IsSpanAt (spans C shape c (take_looks takes end)) start m x → TakeRule shape (c.number + m) x.seen x.outcome
 take_rule shape c takes end h = each_at (TakeRule shape) C shape c (take_looks takes end) (takes_keep shape c.number takes end h)
+
+-- each take keeps the rule of takes
+pub take_rules :
+    (shape : Shape) (c : Count) (takes : List Take) (end : End) → AreTakes shape c.number takes end →
+    (start m : ℕ) (x : Span) → IsSpanAt (spans C shape c (take_looks takes end)) start m x → clocks.IsTakeSpan (modulus_of shape) (capacity_of shape) (c.number + m) x
+take_rules shape c takes end h start m x st = grind (arith, take_rule)
 
 -- the count that a put reads is below the modulus, and its items fit
 pub put_fits :

@@ -44,11 +44,22 @@ put_told_is shape offers j c (x ∷ puts) closes i = search (arith, put_told_is 
 abbrev PutsTell : Shape → (ℕ → List ℕ) → Puts → ℕ → List Put → List Put → List Event → Type 0
 PutsTell shape offers calls = Told (put_events shape) (stored_after shape) (put_begin offers) put_answer (put_last calls.closes) (events_of_puts shape) 0 calls.puts
 
+-- the program's events are those of the puts, and of the close
+put_program_is : (shape : Shape) (calls : Puts) → events_in (put_program shape calls) ≡ events_of_puts shape calls.puts + 2 * length (close_phrase calls.closes)
+put_program_is shape calls = omega (arith, length-append (put_phrases shape first_count calls.puts) (close_phrase calls.closes))
+
+-- an event after all puts is one of the close
+close_tells :
+    (shape : Shape) (offers : ℕ → List ℕ) (calls : Puts) (i : ℕ) (before after : List Put) (told : List Event) (closes : Bool) → calls.closes ≡ closes →
+    i < events_in (put_program shape calls) → after ≡ before → before ≡ calls.puts → events_of_puts shape before ≤ i → events_of_puts shape before ≡ events_of_puts shape calls.puts →
+    told ≡ put_last closes (i - events_of_puts shape before) → PutTells shape offers calls i before after told
+close_tells shape offers calls i before after told closes e l same all past whole is = grind (arith, put_program_is, place, first_told, last_told)
+
 -- the same in terms of the puts
 in_puts :
     (shape : Shape) (offers : ℕ → List ℕ) (calls : Puts) (i : ℕ) (before after : List Put) (told : List Event) → i < events_in (put_program shape calls) →
     PutsTell shape offers calls i before after told → PutTells shape offers calls i before after told
-in_puts shape offers calls i before after told l h1 = grind (arith, told, place, first_told, last_told, length-append)
+in_puts shape offers calls i before after told l h1 = grind (arith, put_program_is, close_tells, told)
 
 pub puts-tell : PutsTellByOne
 puts-tell shape offers calls i l =
@@ -85,11 +96,22 @@ abbrev TakesTell : Shape → (ℕ → ℕ) → Takes → ℕ → List Take → L
 TakesTell shape wants calls =
     Told (take_events shape) (count_after shape) (take_begin wants) take_answer (take_last wants (0 + length calls.takes) calls.end) (events_of_takes shape) 0 calls.takes
 
+-- the program's events are those of the takes, and of the last that returns Closed
+take_program_is : (shape : Shape) (calls : Takes) → events_in (take_program shape calls) ≡ events_of_takes shape calls.takes + events_in (end_phrase calls.end)
+take_program_is shape calls = omega (arith, length-append (take_phrases shape first_count calls.takes) (end_phrase calls.end))
+
+-- an event after all takes is one of that take
+end_tells :
+    (shape : Shape) (wants : ℕ → ℕ) (calls : Takes) (i : ℕ) (before after : List Take) (told : List Event) (end : End) → calls.end ≡ end →
+    i < events_in (take_program shape calls) → after ≡ before → events_of_takes shape before ≤ i → events_of_takes shape before ≡ events_of_takes shape calls.takes →
+    told ≡ take_last wants (length before) end (i - events_of_takes shape before) → TakeTells shape wants calls i before after told
+end_tells shape wants calls i before after told end e l same past whole is = search (arith, take_program_is, place, end_long, first_told, between_told, last_told)
+
 -- the same in terms of the takes
 in_takes :
     (shape : Shape) (wants : ℕ → ℕ) (calls : Takes) (i : ℕ) (before after : List Take) (told : List Event) → i < events_in (take_program shape calls) →
     TakesTell shape wants calls i before after told → TakeTells shape wants calls i before after told
-in_takes shape wants calls i before after told l h1 = grind (arith, told, place, end_long, first_told, between_told, last_told, length-append)
+in_takes shape wants calls i before after told l h1 = grind (arith, take_program_is, end_tells, told)
 
 pub takes-tell : TakesTellByOne
 takes-tell shape wants calls i l =
