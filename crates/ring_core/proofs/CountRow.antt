@@ -6,7 +6,7 @@ use Rattle.std.proofs.lemmas.Nat.{mod_below}
 use Rattle.std.proofs.Math.Nat.{suc-mod, mod_self, mod-eq_of_lt, zero-mod}
 use Rattle.bits_core.specs.declared.events.Side.{Side}
 use Rattle.bits_core.specs.declared.shapes.Shape.{Shape}
-use Rattle.bits_core.specs.Shape.{batch_of, capacity_of, modulus_of, take_batch_of}
+use Rattle.bits_core.specs.Shape.{batch_of, modulus_of, take_batch_of}
 use Rattle.bits_core.specs.Made.{Made, Write}
 use Rattle.register_core.specs.Row.{RowWrite, row_bit, first_bits, bits_after, writes_in}
 use Rattle.register_core.specs.Unary.{clearing, setting, unary_phrase, unary_writes, row_writes, writes_of, count_writes}

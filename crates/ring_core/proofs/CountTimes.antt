@@ -26,7 +26,7 @@ use Rattle.ring_core.proofs.Readings.Cuts.{at_most_or_above}
 use Rattle.ring_core.proofs.CountRow.{past_is, first_is_count, bits_long}
 use Rattle.ring_core.proofs.Machines.Following.{events_of-append, length-events}
 use Rattle.ring_core.proofs.OverSpans.Timeline.{AllProper, ended_zero}
-use Rattle.ring_core.proofs.OverSpans.Looks.{Passing, AllPassing, look_is_count, all_proper}
+use Rattle.ring_core.proofs.OverSpans.Looks.{AllPassing, look_is_count, all_proper}
 use Rattle.register_core.proofs.RowWrites.{row_write-read as read_none}
 
 -- ---- the bit writes of a count among events

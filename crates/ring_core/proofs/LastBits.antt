@@ -10,7 +10,7 @@ use Rattle.bits_core.specs.Made.{Made, Read}
 use Rattle.register_core.specs.Row.{RowWrite, writes_in}
 use Rattle.register_core.specs.Word.{digit_reads}
 use Rattle.register_core.specs.ScanState.{zero_reads, scan_phrase, row_read_by}
-use Rattle.ring_core.specs.Takes.{Take, End, Item, ItemAfterClose, Empty, Open, Closed, count_after, words_read, items_phrase, take_phrase, take_phrases, end_phrase, IsTake, AreTakes}
+use Rattle.ring_core.specs.Takes.{Take, End, Item, ItemAfterClose, Empty, Open, Closed, count_after, words_read, take_phrase, take_phrases, end_phrase, IsTake, AreTakes}
 use Rattle.ring_core.specs.Counts.{Count, first_count}
 use Rattle.ring_core.specs.GoingOn.{LastTakesReadOne}
 

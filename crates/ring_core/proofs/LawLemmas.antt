@@ -1,8 +1,6 @@
 -- The laws of src/laws.rt as lemmas, each under its name, and each clause of a law with several as LAW_CLAUSE: cited by proofs,
 -- here and in the crates above.
 use Rattle.std.proofs.Common.{arith}
-use Rattle.bits_core.specs.Shape.{capacity_of}
-use Rattle.queue_calls.specs.Queue.{exactly}
 use Rattle.queue_calls.proofs.LawLemmas.{counted_is_linearizable}
 use Rattle.ring_core.proofs.CallsLaw as calls
 use Rattle.ring_core.proofs.Cells.CellAccesses.{cells_are_quiet}
@@ -13,7 +11,7 @@ use Rattle.ring_core.proofs.Machines.TakeCalls.{fit-push, words_read-push}
 use Rattle.ring_core.proofs.OverSpans.RingOfSpans.{LawOfSpans}
 use Rattle.ring_core.proofs.Recorded.RecordedRuns.{recorded_are_counted}
 use Rattle.ring_core.proofs.RingHolds.{law_of_spans}
-use Rattle.ring_core.specs.Recorded.{recorded, RecordedIsLinearizable}
+use Rattle.ring_core.specs.Recorded.{RecordedIsLinearizable}
 use Rattle.ring_core.specs.CountWrites.{CountsAreWritten, CountsShowNumbers}
 use Rattle.ring_core.specs.Linear.{IsLinearizableRun}
 use Rattle.ring_core.proofs.Machines.OneWordMore.{ItemsFitByOneMore, WordsByOneMore}

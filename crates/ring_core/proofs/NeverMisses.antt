@@ -4,7 +4,6 @@ use Rattle.std.specs.Prelude.{All, slice_get}
 use Rattle.std.proofs.lemmas.List.Elements.{All-nil, All-append}
 use Rattle.std.proofs.lemmas.Nat.{mod_below}
 use Rattle.bits_core.specs.declared.events.Side.{Side}
-use Rattle.bits_core.specs.declared.events.Side.TheVariants.{C}
 use Rattle.bits_core.specs.declared.events.Event.{Event}
 use Rattle.bits_core.specs.declared.shapes.Shape.{Shape}
 use Rattle.bits_core.specs.Shape.{modulus_of}
@@ -17,11 +16,10 @@ use Rattle.register_core.specs.ScanState.{zero_reads, row_read_by}
 use Rattle.register_core.specs.UnaryLaw.{ReadsZeros}
 use Rattle.register_core.specs.MadeReads.{begin_place, end_place}
 use Rattle.ring_core.specs.Counts.{first_count}
-use Rattle.ring_core.proofs.OverSpans.Spans.{Outcome}
-use Rattle.ring_core.proofs.OverSpans.LookSpans.{Look, take_looks, look_number, look_accesses}
+use Rattle.ring_core.proofs.OverSpans.LookSpans.{Look, look_number, look_accesses}
 use Rattle.ring_core.specs.RunLaws.{NeverReadsAll, NeverMisses, PutsAreSeen, TakesAreSeen}
 use Rattle.ring_core.proofs.Readings.Cuts.{at_most_or_above}
-use Rattle.ring_core.proofs.CountTimes.{IsQuiet, quiet_close, values_from, value_of, counted_in}
+use Rattle.ring_core.proofs.CountTimes.{IsQuiet, quiet_close, values_from}
 use Rattle.ring_core.proofs.Machines.Lengths.{length-zero_reads}
 use Rattle.ring_core.proofs.OverSpans.RegularScans.{writes_unary, put_events, take_events}
 use Rattle.register_core.proofs.LawLemmas.{numbered_stay_within, reads_are_made_zeros, unary_has_one}
@@ -39,7 +37,7 @@ never_reads :
     (shape : Shape) (h : List Event) → IsLawful shape h → (s : Side) (looks : List Look) (behind : List Made) → IsQuiet s behind →
     IsPrefix (subhistory s h) (events_of s (look_accesses s shape first_count looks behind)) → NeverReadsAll s shape h
 never_reads shape h lawful s looks behind quiet follows last e start stop zeros =
-    search (arith, unary_has_one, counted_in shape looks, writes_unary shape h lawful s looks behind follows quiet, numbered_stay_within, counted_within shape 0 looks last e)
+    search (arith, unary_has_one, writes_unary shape h lawful s looks behind follows quiet, numbered_stay_within, counted_within shape 0 looks last e)
 
 -- ---- the reads of a list of accesses
 
@@ -95,4 +93,4 @@ puts-are_seen shape h puts lawful follows = search (arith, never_reads, quiet_cl
 
 -- a producer does not read the consumer's count as 0 in all bits
 pub takes-are_seen : TakesAreSeen
-takes-are_seen shape h takes lawful follows = search (arith, never_reads, take_looks, take_events, never_misses)
+takes-are_seen shape h takes lawful follows = search (arith, never_reads, take_events, never_misses)

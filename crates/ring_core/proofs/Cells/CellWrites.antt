@@ -9,11 +9,10 @@ use Rattle.bits_core.specs.declared.events.Side.TheVariants.{P}
 use Rattle.bits_core.specs.declared.events.Bit.{Bit}
 use Rattle.bits_core.specs.declared.events.Bit.TheVariants.{Cell}
 use Rattle.bits_core.specs.declared.events.Act.{Act}
-use Rattle.bits_core.specs.declared.events.Access.TheVariants as begins
 use Rattle.bits_core.specs.declared.events.Event.{Event}
 use Rattle.bits_core.specs.declared.shapes.Shape.{Shape}
 use Rattle.bits_core.specs.Shape.{IsByRightSide}
-use Rattle.bits_core.specs.Bits.{same_side, doer, begun_access, is_by}
+use Rattle.bits_core.specs.Bits.{same_side, doer, is_by}
 use Rattle.bits_core.specs.Intervals.{IsWrite}
 use Rattle.bits_core.specs.Lawful.{IsLawful}
 use Rattle.bits_core.specs.Made.{Made, Read, Write, end_event, events_of, subhistory, clock, IsPrefix}

@@ -4,7 +4,7 @@ use Rattle.queue_calls.specs.Queue.{queue}
 use Rattle.bits_core.specs.declared.events.Side.TheVariants.{P, C}
 use Rattle.bits_core.specs.declared.events.Event.{Event}
 use Rattle.bits_core.specs.declared.shapes.Shape.{Shape}
-use Rattle.bits_core.specs.Shape.{batch_of, capacity_of, take_batch_of}
+use Rattle.bits_core.specs.Shape.{capacity_of}
 use Rattle.bits_core.specs.Made.{subhistory, clock}
 use Rattle.ring_core.specs.Counts.{Count, first_count}
 use Rattle.ring_core.specs.Puts.{Puts, put_phrases}

@@ -9,7 +9,7 @@ use Rattle.std.proofs.lemmas.Bool.{false≢true}
 use Rattle.queue_calls.specs.Queue.{Queue, queue, exactly, Step, IsLegal}
 use Rattle.ring_core.specs.Linear.{TimedOperation, done_by, of_side, EndsBefore}
 use Rattle.ring_core.proofs.Readings.Cuts.{at_most_or_above}
-use Rattle.ring_core.proofs.Linear.Turns.{In, Kind, Moves, Misses, Ends, IsMove, IsMiss, IsEnd, Op, put_op, take_op, put_does, take_does, Tallies, PutFact, TakeFact, GoesTo, Needs, Must, May, NoMust, find_must, may, move_not_miss}
+use Rattle.ring_core.proofs.Linear.Turns.{In, Kind, Moves, Misses, Ends, IsMove, IsMiss, IsEnd, Op, put_op, take_op, put_does, take_does, Tallies, PutFact, TakeFact, GoesTo, Must, May, NoMust, find_must, may, move_not_miss}
 
 -- the operations of each side
 abbrev pub put_ops : List Op → List TimedOperation

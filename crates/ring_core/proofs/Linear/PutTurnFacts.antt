@@ -21,11 +21,10 @@ use Rattle.ring_core.proofs.OverSpans.Timeline.{AllProper, begun_at, begun_up, b
 use Rattle.ring_core.proofs.OverSpans.CallSpans.{three, stands_at}
 use Rattle.ring_core.proofs.CallCounts.{ended_counts}
 use Rattle.ring_core.proofs.OwnEvents.{clock_rises}
-use Rattle.ring_core.proofs.Linear.Turns.{In, Misses, Ends, IsMove, Op, PutFact, move_not_miss, move_not_end}
+use Rattle.ring_core.proofs.Linear.Turns.{In, Misses, IsMove, Op, PutFact, move_not_miss, move_not_end}
 use Rattle.ring_core.proofs.Linear.OneOrder.{Numbered, items_by, IsClosedBy}
-use Rattle.ring_core.proofs.Linear.PutTurns.{if_yes, if_no, in_append, in_if, in_call, in_one, begun_past_count, begun_before_count, begun_of_none, begun_counts, put_turn, enqueue_turns, put_long, until_count, put_turns, put_turns-none, put_some, before_put_ends, move_of, move_so, moves_numbered}
+use Rattle.ring_core.proofs.Linear.PutTurns.{if_yes, if_no, in_if, in_call, in_one, begun_past_count, begun_before_count, begun_of_none, begun_counts, put_turn, enqueue_turns, put_long, until_count, put_turns, put_turns-none, put_some, before_put_ends, move_of, move_so, moves_numbered}
 use Rattle.bits_core.proofs.LawLemmas.{subhistory_has_place}
-use Rattle.bits_core.proofs.OwnEvents.{by_case}
 use Rattle.std.proofs.lemmas.Bool.Decides.{nat_tests}
 
 -- the place of the side's own event i is the last one with a clock of at most i

@@ -1,5 +1,5 @@
 -- The properties of the operations of the consumer's calls in a run.
-use Rattle.std.proofs.Common.{◌≡◌, inl, inr, ℕ, suc, ◌+◌, ◌*◌, ◌<◌, ◌≤◌, Bool, true, false, nat_le, if◌then◌else◌, Some, List, [], ◌∷◌, ◌++◌, length, refl, sym, ap, subst, ◌∙◌, arith, length-append}
+use Rattle.std.proofs.Common.{◌≡◌, inl, inr, ℕ, suc, ◌+◌, ◌*◌, ◌<◌, ◌≤◌, Bool, true, false, nat_le, Some, List, [], ◌∷◌, ◌++◌, length, refl, sym, ap, subst, ◌∙◌, arith, length-append}
 use Rattle.std.specs.Prelude.{slice_get}
 use Rattle.bits_core.specs.declared.events.Side.TheVariants.{P, C}
 use Rattle.bits_core.specs.declared.events.Event.{Event}
@@ -10,17 +10,17 @@ use Rattle.std.proofs.lemmas.Bool.{leb-true}
 use Rattle.ring_core.proofs.OverSpans.Looks.{words_are}
 use Rattle.ring_core.proofs.Cells.CellPlaces.{multiple_up}
 use Rattle.ring_core.proofs.CountRow.{past_is}
-use Rattle.bits_core.specs.Made.{Made, subhistory, clock, place_of, IsPlaceOf}
+use Rattle.bits_core.specs.Made.{subhistory, clock, place_of, IsPlaceOf}
 use Rattle.ring_core.specs.Counts.{Count, first_count}
 use Rattle.ring_core.specs.Puts.{Puts, put_phrases}
-use Rattle.ring_core.specs.Takes.{Take, Item, ItemAfterClose, Empty, End, Open, Closed, Takes, count_after, taken_in, take_phrase, take_phrases, end_phrase}
+use Rattle.ring_core.specs.Takes.{Take, Item, ItemAfterClose, Empty, End, Open, Closed, Takes, count_after, taken_in, take_phrases, end_phrase}
 use Rattle.ring_core.specs.Items.{events_in, items_put, Tells}
 use Rattle.ring_core.specs.Linear.{take_effect}
 use Rattle.ring_core.proofs.OverSpans.Spans.{Span, Passes, Stops, Asks, counts, items_of, before_count, whole, counts_begun, counts_ended, IsSpanAt}
 use Rattle.ring_core.proofs.OverSpans.LookSpans.{look, take_looks, span_of, spans, put_spans, take_spans}
 use Rattle.ring_core.proofs.OverSpans.RingOfSpans.{LawOfSpans}
-use Rattle.ring_core.proofs.OverSpans.Timeline.{AllProper, ended_begun, begun_at, begun_up}
-use Rattle.ring_core.proofs.OverSpans.CallSpans.{stands_at, take_phrase-item, take_phrase-after, take_phrase-empty}
+use Rattle.ring_core.proofs.OverSpans.Timeline.{AllProper, ended_begun}
+use Rattle.ring_core.proofs.OverSpans.CallSpans.{take_phrase-item, take_phrase-after, take_phrase-empty}
 use Rattle.ring_core.proofs.CallCounts.{ended_counts, phrase_some}
 use Rattle.ring_core.proofs.OwnEvents.{clock_end}
 use Rattle.ring_core.proofs.Linear.Turns.{In, Misses, Ends, IsEnd, Op, TakeFact}

@@ -1,5 +1,5 @@
 -- The operations of the consumer's calls, with their numbers: their order, and what holds for each in a run.
-use Rattle.std.proofs.Common.{◌≡◌, inl, inr, ℕ, suc, ◌+◌, ◌-◌, ◌<◌, ◌≤◌, Bool, true, nat_lt, nat_le, if◌then◌else◌, Some, List, [], ◌∷◌, ◌++◌, length, drop, refl, sym, ap, ap₂, subst, ◌∙◌, arith, length-append, drop-cons}
+use Rattle.std.proofs.Common.{◌≡◌, inl, inr, ℕ, suc, ◌+◌, ◌-◌, ◌<◌, ◌≤◌, Bool, true, nat_lt, nat_le, if◌then◌else◌, Some, List, [], ◌∷◌, ◌++◌, length, drop, refl, ap, ap₂, subst, ◌∙◌, arith, length-append, drop-cons}
 use Rattle.std.specs.Prelude.{slice_get, map}
 use Rattle.std.proofs.lemmas.List.{map-append}
 use Rattle.std.proofs.lemmas.Option.{slice_get_within, get_or_from_slice_get}
@@ -9,7 +9,6 @@ use Rattle.bits_core.specs.declared.events.Bit.TheVariants.{X}
 use Rattle.bits_core.specs.declared.events.Event.{Event}
 use Rattle.bits_core.specs.declared.shapes.Shape.{Shape}
 use Rattle.bits_core.specs.Made.{Read, place_of}
-use Rattle.bits_core.proofs.OwnEvents.{by_case}
 use Rattle.register_core.specs.ScanState.{scan_phrase, row_read_by}
 use Rattle.ring_core.specs.Takes.{Take, Item, ItemAfterClose, Empty, End, Open, Closed, taken_after, count_after, take_phrase, end_phrase}
 use Rattle.ring_core.specs.Counts.{Count, number_past}
@@ -18,14 +17,13 @@ use Rattle.ring_core.proofs.CountRow.{past_is}
 use Rattle.ring_core.specs.Items.{events_in}
 use Rattle.ring_core.proofs.EndedCounts.{take_before_count, taken_begun}
 use Rattle.ring_core.specs.Linear.{TimedOperation, operations, take_effect, take_operations}
-use Rattle.ring_core.specs.Linear as linear
 use Rattle.ring_core.proofs.OverSpans.Spans.{Passes, Asks, before_count, whole}
 use Rattle.ring_core.proofs.OverSpans.LookSpans.{look, span_of}
 use Rattle.ring_core.proofs.OverSpans.CallSpans.{take_phrase-item, take_phrase-after}
 use Rattle.ring_core.proofs.CallCounts.{phrase_some}
 use Rattle.ring_core.proofs.Linear.Turns.{In, Kind, Moves, Misses, Ends, Op, take_op}
 use Rattle.ring_core.proofs.Linear.OneOrder.{take_ops, Sorted, Numbered, next_number, with_item, items_by}
-use Rattle.ring_core.proofs.Linear.PutTurns.{turn, moves, if_yes, if_no, in_append, in_if, in_call, sorted_call, no_turns, IsFrom, from_here, from_move, move_of, moves_sorted, moves_numbered}
+use Rattle.ring_core.proofs.Linear.PutTurns.{turn, moves, if_yes, if_no, in_if, in_call, sorted_call, no_turns, IsFrom, from_here, from_move, move_of, moves_sorted, moves_numbered}
 
 abbrev pub take_turn : List Event → ℕ → Kind → ℕ → ℕ → Op
 take_turn h k kind start stop = turn (place_of C h start) k kind start stop

@@ -1,5 +1,5 @@
 -- What holds at each stage of the consumer's machine holds after an access.
-use Rattle.std.proofs.Common.{◌≡◌, ◌≢◌, ℕ, ◌+◌, ◌%◌, ◌<◌, ◌≤◌, Bool, true, false, Option, Some, None, List, [], ◌∷◌, ◌++◌, length, length-append, refl, sym, ap, subst, ◌∙◌, arith}
+use Rattle.std.proofs.Common.{◌≡◌, ◌≢◌, ℕ, ◌+◌, ◌%◌, Bool, true, false, Option, Some, None, List, [], length, refl, ap, subst, ◌∙◌, arith}
 use Rattle.bits_core.specs.declared.events.Side.TheVariants.{C}
 use Rattle.bits_core.specs.declared.events.Access.TheVariants as begins
 use Rattle.bits_core.specs.declared.events.Bit.TheVariants.{R}
@@ -9,7 +9,7 @@ use Rattle.register_core.specs.ScanState.{ScanState, scan_read, due_scan}
 use Rattle.register_core.specs.WordState.{ReaderState, ReaderStands, IsReadOf, IsItemRead, read_digit}
 use Rattle.register_core.specs.UnaryState.{UnaryState, due_unary}
 use Rattle.ring_core.specs.declared.consumers.Stage.{Stage}
-use Rattle.ring_core.specs.declared.consumers.Stage.TheVariants.{Scanning, Rescanning, Loading, Counting}
+use Rattle.ring_core.specs.declared.consumers.Stage.TheVariants.{Scanning, Loading, Counting}
 use Rattle.ring_core.specs.Calls.{LastBitIsDue, IsScanning, IsCounted}
 use Rattle.ring_core.specs.ConsumerState.{ConsumerState, IsConsumer, ConsumerIsAt, IsBetweenWords, IsTaking, IsLoading, due_take, consumer_due_at}
 use Rattle.ring_core.proofs.CountRow.{take_batch_below}

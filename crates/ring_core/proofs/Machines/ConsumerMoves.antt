@@ -4,7 +4,6 @@ use Rattle.std.proofs.lemmas.List.{append_cancel_left}
 use Rattle.bits_core.specs.declared.events.Side.TheVariants.{C}
 use Rattle.bits_core.specs.declared.events.Bit.TheVariants.{X}
 use Rattle.bits_core.specs.declared.events.Access.{Access}
-use Rattle.bits_core.specs.declared.events.Access.TheVariants as begins
 use Rattle.bits_core.specs.declared.shapes.Shape.{Shape}
 use Rattle.bits_core.specs.Shape.{AllFit, capacity_of, modulus_of, take_batch_of, width_of}
 use Rattle.bits_core.specs.Made.{Made, Read, answered}

@@ -20,7 +20,6 @@ use Rattle.ring_core.specs.declared.consumers.Stage.TheVariants.{Scanning, Check
 use Rattle.ring_core.specs.Counts.{ShowsItem, distance, number_past, Count, first_count, batch_phrase}
 use Rattle.ring_core.specs.Calls.{IsScanning, EndsInZeros}
 use Rattle.ring_core.specs.Lengths.{longest_taking}
-use Rattle.ring_core.specs.Items.{taken_of}
 use Rattle.ring_core.specs.Takes.{Take, Takes, Item, ItemAfterClose, Empty, Open, Closed, words_read, items_phrase, take_phrase, take_phrases, end_phrase, take_program, IsTake, SeesItems, SeesNone, IsTakeBatch, AreTakes}
 use Rattle.ring_core.specs.ConsumerState.{ConsumerState, IsTaking, IsLoading, due_take, takes_at, is_taking}
 use Rattle.ring_core.specs.ConsumerCalls.{ConsumerStands, Finding, Twice, finding_phrase, Finds, made_of_take, count_taken, values_taken, and_take, and_end, BeginsTake, TakeGoesOn, TakesAll, IsTakeOf}
@@ -32,7 +31,6 @@ use Rattle.ring_core.proofs.Machines.Batches.{far_from}
 use Rattle.ring_core.proofs.Machines.NextParts.{begins_more, begins_behind, length-part, scan_due, scan_reads, scan_goes_on, next_write}
 use Rattle.ring_core.proofs.Machines.TakeCalls.{are-push, are-last, are-end, end-sees_none, program-push, calls_are_count, values_hold, words_read-append, zeros, zeros-long, zeros-fit, fit-append, take_of, take_of-is, take_of-phrase}
 use Rattle.ring_core.proofs.Machines.ConsumerMoves.{made_at, open_at}
-use Rattle.ring_core.proofs.Recorded.RecordedStates.{few_items as takes_few}
 
 -- ---- prefixes of one more take
 

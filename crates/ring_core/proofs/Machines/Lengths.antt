@@ -1,7 +1,7 @@
 -- How many accesses the phrases of a call have.
 use Rattle.std.proofs.Common.{◌≡◌, ℕ, suc, ◌+◌, ◌*◌, ◌%◌, ◌≤◌, true, false, List, [], ◌∷◌, ◌++◌, length, refl, ap, arith, ◌∙◌, length-append}
 use Rattle.std.proofs.lemmas.List.{length-map}
-use Rattle.std.proofs.Math.Nat.{suc-mul, mul-le-mul_right}
+use Rattle.std.proofs.Math.Nat.{suc-mul}
 use Rattle.bits_core.specs.declared.events.Side.TheVariants.{P, C}
 use Rattle.bits_core.specs.declared.events.Bit.{Bit}
 use Rattle.bits_core.specs.declared.events.Bit.TheVariants.{X, Cell}
@@ -13,7 +13,7 @@ use Rattle.register_core.specs.ScanState.{zero_reads, scan_phrase, row_read_by}
 use Rattle.ring_core.specs.Counts.{Count, IsCount, batch_phrase}
 use Rattle.ring_core.specs.Puts.{words_phrase}
 use Rattle.ring_core.specs.Takes.{Item, ItemAfterClose, Empty, words_read, items_phrase}
-use Rattle.ring_core.specs.Lengths.{longest_take, longest_taking, ItemPutsAreShort, FullPutsAreShort, PutsAreShort, TakesAreShort, EndsAreShort}
+use Rattle.ring_core.specs.Lengths.{longest_taking, ItemPutsAreShort, FullPutsAreShort, PutsAreShort, TakesAreShort, EndsAreShort}
 use Rattle.ring_core.proofs.Readings.Phrases.{length-digit_reads, length-digit_writes}
 use Rattle.ring_core.proofs.CountRow.{step_short, batch_short}
 pub use Rattle.register_core.proofs.ScanMachine.{length-zeros as length-zero_reads}

@@ -6,7 +6,7 @@ use Rattle.bits_core.specs.declared.events.Side.TheVariants.{P}
 use Rattle.bits_core.specs.declared.events.Bit.{Bit}
 use Rattle.bits_core.specs.declared.events.Bit.TheVariants.{X, Cell}
 use Rattle.bits_core.specs.declared.shapes.Shape.{Shape}
-use Rattle.bits_core.specs.Made.{Made, Read, Write, begin_event, subhistory, IsPrefix}
+use Rattle.bits_core.specs.Made.{Made, Write, subhistory, IsPrefix}
 use Rattle.register_core.specs.ScanState.{scan_phrase, row_read_by}
 use Rattle.ring_core.specs.Counts.{Count, first_count, batch_phrase, IsCount}
 use Rattle.ring_core.specs.Readings.{PutsAreFirst, PutsAreRead}

@@ -1,5 +1,5 @@
 -- The calls that are over are the same in every reading of a history.
-use Rattle.std.proofs.Common.{◌≡◌, inl, inr, ℕ, ◌+◌, ◌-◌, ◌*◌, ◌<◌, ◌≤◌, Bool, true, false, cond, List, [], ◌∷◌, ◌++◌, length, refl, sym, ap, subst, ◌∙◌, arith, nat_le, if◌then◌else◌, append_assoc, append-nil, length-append}
+use Rattle.std.proofs.Common.{◌≡◌, inl, inr, ℕ, ◌+◌, ◌-◌, ◌*◌, ◌<◌, ◌≤◌, Bool, true, false, cond, List, [], ◌∷◌, ◌++◌, length, refl, sym, ap, subst, ◌∙◌, arith, nat_le, append_assoc, append-nil, length-append}
 use Rattle.std.proofs.lemmas.Bool.{leb-true, le-leb, lt-leb}
 use Rattle.std.proofs.lemmas.Bool.Decides.{nat_tests}
 use Rattle.bits_core.specs.declared.events.Side.{Side}
@@ -8,7 +8,7 @@ use Rattle.bits_core.specs.declared.events.Event.{Event}
 use Rattle.bits_core.specs.declared.shapes.Shape.{Shape}
 use Rattle.bits_core.specs.Made.{Made, events_of, subhistory, IsPrefix}
 use Rattle.ring_core.specs.Counts.{Count, first_count}
-use Rattle.ring_core.specs.Items.{events_in, taken_of, all_taken, take_ended, items_taken, ToldIn, TakenAreRead}
+use Rattle.ring_core.specs.Items.{events_in, taken_of, all_taken, items_taken, ToldIn, TakenAreRead}
 use Rattle.ring_core.specs.Over.{over, takes_over, PutsOverAreRead, TakesOverAreRead}
 use Rattle.ring_core.specs.Puts.{Put, Puts, ArePuts, close_phrase, number_after, put_phrase, put_phrases, put_program, stored_after, stored_count}
 use Rattle.ring_core.specs.ConsumerCalls.{HasTakeMore}

@@ -1,5 +1,5 @@
 -- An access of a kind, after accesses that are not of it.
-use Rattle.std.proofs.Common.{◌≡◌, List, [], ◌∷◌, ◌++◌, refl, subst, arith}
+use Rattle.std.proofs.Common.{◌≡◌, List, [], ◌∷◌, ◌++◌, refl, arith}
 use Rattle.bits_core.specs.Made.{Made}
 
 -- no access of the list is of the kind

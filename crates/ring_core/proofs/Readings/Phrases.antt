@@ -1,11 +1,10 @@
 -- Lists of accesses that start with phrases: the phrase and what follows it are determined by the list.
 use Rattle.std.proofs.Common.{◌≡◌, ℕ, zero, suc, ◌^◌, ◌<◌, Bool, true, false, List, [], ◌∷◌, ◌++◌, length, refl, sym, ap, ◌∙◌, arith, ◌⊎◌, inl, inr, append_assoc}
-use Rattle.bits_core.specs.declared.events.Side.{Side}
 use Rattle.bits_core.specs.declared.events.Bit.{Bit}
 use Rattle.bits_core.specs.declared.events.Bit.TheVariants.{Cell}
 use Rattle.bits_core.specs.declared.shapes.Shape.{Shape}
 use Rattle.bits_core.specs.Shape.{AllFit, width_of}
-use Rattle.bits_core.specs.Made.{Made, Read, begin_event, end_event}
+use Rattle.bits_core.specs.Made.{Made, Read}
 use Rattle.register_core.specs.Row.{RowWrite, writes_in}
 use Rattle.register_core.specs.Word.{digit, digit_writes, digit_reads, word_write, word_read}
 use Rattle.register_core.specs.ScanState.{zero_reads, scan_phrase}
@@ -91,7 +90,7 @@ pub same_word_read :
     (width cell a b : ℕ) (xs ys : List Made) → a < 2 ^ width → b < 2 ^ width →
     word_read width cell a ++ xs ≡ word_read width cell b ++ ys → (a ≡ b) × (xs ≡ ys)
 same_word_read width cell a b xs ys l m e =
-    search (arith, same_parts (digit_reads cell a width) (digit_reads cell b width) xs ys (length-digit_reads cell a width ∙ sym (length-digit_reads cell b width)) e, length-digit_reads cell a width, length-digit_reads cell b width, digits_tell_items, digits_read)
+    search (arith, same_parts (digit_reads cell a width) (digit_reads cell b width) xs ys (length-digit_reads cell a width ∙ sym (length-digit_reads cell b width)) e, digits_tell_items, digits_read)
 
 abbrev with_parts : ℕ → Bool → RowWrite
 with_parts b v = record { bit = b; value = v }
@@ -121,7 +120,7 @@ pub same_word_write :
     (width cell a b : ℕ) (xs ys : List Made) → a < 2 ^ width → b < 2 ^ width →
     word_write width cell a ++ xs ≡ word_write width cell b ++ ys → (a ≡ b) × (xs ≡ ys)
 same_word_write width cell a b xs ys l m e =
-    search (arith, same_writes cell (digit_writes a width) (digit_writes b width) xs ys (length-digit_writes a width ∙ sym (length-digit_writes b width)) e, length-digit_writes a width, length-digit_writes b width, digits_tell_items, digits_written)
+    search (arith, same_writes cell (digit_writes a width) (digit_writes b width) xs ys (length-digit_writes a width ∙ sym (length-digit_writes b width)) e, digits_tell_items, digits_written)
 
 -- ---- words one after the other, and what comes after them
 

@@ -1,13 +1,12 @@
 -- Takes and their end, from the first take on.
-use Rattle.std.proofs.Common.{◌≡◌, ℕ, true, false, List, [], ◌∷◌, ◌++◌, sym, ap, append-nil, arith}
+use Rattle.std.proofs.Common.{◌≡◌, ℕ, true, List, [], ◌∷◌, ◌++◌, sym, ap, append-nil}
 use Rattle.bits_core.specs.declared.events.Side.TheVariants.{C}
 use Rattle.bits_core.specs.declared.events.Bit.TheVariants.{X}
 use Rattle.bits_core.specs.declared.shapes.Shape.{Shape}
 use Rattle.bits_core.specs.Made.{Made, Read}
 use Rattle.register_core.specs.ScanState.{scan_phrase, row_read_by}
 use Rattle.ring_core.specs.Counts.{Count}
-use Rattle.ring_core.specs.Takes.{Take, End, Item, ItemAfterClose, Empty, Closed, count_after, items_phrase, take_phrases, end_phrase}
-use Rattle.ring_core.proofs.Readings.Phrases.{joined, joined_two}
+use Rattle.ring_core.specs.Takes.{Take, End, Closed, take_phrases, end_phrase}
 
 -- the consumer's scan of a count
 abbrev pub scan : ℕ → List Made

@@ -1,5 +1,5 @@
 -- What one of a side's own events records of its calls.
-use Rattle.std.proofs.Common.{◌≡◌, ℕ, suc, ◌+◌, ◌-◌, ◌*◌, ◌<◌, ◌≤◌, Bool, true, false, List, [], ◌∷◌, length, sym, subst, arith, length-append}
+use Rattle.std.proofs.Common.{◌≡◌, ℕ, suc, ◌+◌, ◌-◌, ◌*◌, ◌<◌, ◌≤◌, Bool, true, false, List, [], ◌∷◌, length, arith, length-append}
 use Rattle.queue_calls.specs.Calls.{Event, PutBegin, CloseBegin, CloseEnd, TakeBegin, TakeEnd, Shut}
 use Rattle.bits_core.specs.declared.events.Side.TheVariants.{C}
 use Rattle.bits_core.specs.declared.events.Bit.TheVariants.{X}
@@ -8,7 +8,6 @@ use Rattle.bits_core.specs.Made.{Read}
 use Rattle.register_core.specs.ScanState.{scan_phrase, row_read_by}
 use Rattle.ring_core.specs.Counts.{Count, first_count}
 use Rattle.ring_core.specs.Items.{events_in}
-use Rattle.ring_core.specs.Over.{puts_over, takes_over}
 use Rattle.ring_core.specs.Puts.{Put, Puts, close_phrase, put_phrase, put_phrases, put_program, stored_after}
 use Rattle.ring_core.specs.Recorded.{put_answer, put_told, take_answer, take_told, told_or_behind}
 use Rattle.ring_core.specs.RecordedByOne.{events_of_puts, events_of_takes, PutTells, PutsTellByOne, TakeTells, TakesTellByOne}
@@ -63,7 +62,7 @@ in_puts shape offers calls i before after told l h1 = grind (arith, put_program_
 
 pub puts-tell : PutsTellByOne
 puts-tell shape offers calls i l =
-    search (arith, put_told_is shape offers 0 first_count calls.puts calls.closes i, in_puts, tells_so (put_events shape) (stored_after shape) (put_begin offers) put_answer (put_last calls.closes) (events_of_puts shape) (put_long shape) 0 first_count calls.puts i (puts_total shape first_count), put_long shape, puts_total shape first_count)
+    search (arith, put_told_is shape offers 0 first_count calls.puts calls.closes i, in_puts, tells_so (put_events shape) (stored_after shape) (put_begin offers) put_answer (put_last calls.closes) (events_of_puts shape) (put_long shape) 0 first_count calls.puts i (puts_total shape first_count))
 
 -- ---- takes
 
@@ -115,4 +114,4 @@ in_takes shape wants calls i before after told l h1 = grind (arith, take_program
 
 pub takes-tell : TakesTellByOne
 takes-tell shape wants calls i l =
-    search (arith, take_told_is shape wants 0 first_count calls.takes calls.end i, in_takes, tells_so (take_events shape) (count_after shape) (take_begin wants) take_answer (take_last wants (0 + length calls.takes) calls.end) (events_of_takes shape) (take_long shape) 0 first_count calls.takes i (takes_total shape first_count), length calls.takes, take_long shape, takes_total shape first_count)
+    search (arith, take_told_is shape wants 0 first_count calls.takes calls.end i, in_takes, tells_so (take_events shape) (count_after shape) (take_begin wants) take_answer (take_last wants (0 + length calls.takes) calls.end) (events_of_takes shape) (take_long shape) 0 first_count calls.takes i (takes_total shape first_count))

@@ -1,5 +1,5 @@
 -- The calls of each side after its first ones: what their own events record.
-use Rattle.std.proofs.Common.{◌≡◌, ℕ, suc, ◌+◌, ◌-◌, ◌<◌, Bool, true, false, if◌then◌else◌, List, [], ◌∷◌, ◌++◌, length, refl, sym, ap, subst, ◌∙◌, arith, append_assoc, append-nil, length-append}
+use Rattle.std.proofs.Common.{◌≡◌, ℕ, suc, ◌+◌, ◌<◌, Bool, true, false, if◌then◌else◌, List, [], ◌∷◌, ◌++◌, length, refl, sym, ap, subst, ◌∙◌, arith, append_assoc, append-nil, length-append}
 use Rattle.std.proofs.lemmas.Bool.{lt-ltb, eq-eqb}
 use Rattle.queue_calls.specs.Calls as calls
 use Rattle.bits_core.specs.declared.events.Side.TheVariants.{P, C}
@@ -96,7 +96,7 @@ put_spans_past : (shape : Shape) (puts : Puts) (c : Count) (start : ℕ) (stored
     SpansBehind (batch_of shape) (put_spans shape puts) start stored (spans P shape c (put_looks (x ∷ rest))) →
     SpansBehind (batch_of shape) (put_spans shape puts) (start + put_long shape c x) (stored ++ put_items x) (spans P shape (stored_after shape c x) (put_looks rest))
 put_spans_past shape puts c start stored (Stored seen items) rest b =
-    search (arith, spans_past, put_spans shape puts, put_long shape c (Stored seen items), span_of P shape c (look seen (Passes items)), look seen (Passes items), long_is shape c seen items)
+    search (arith, spans_past, span_of P shape c (look seen (Passes items)), long_is shape c seen items)
 put_spans_past shape puts c start stored (Full seen) rest b =
     spans_past (batch_of shape) (put_spans shape puts) start (start + put_long shape c (Full seen)) stored (span_of P shape c (look seen Stops)) _ (omega arith) b
 
@@ -152,7 +152,7 @@ take_spans_past : (shape : Shape) (takes : Takes) (c : Count) (start : ℕ) (tak
     SpansBehind (take_batch_of shape) (take_spans shape takes) start taken (spans C shape c (take_looks (x ∷ rest) takes.end)) →
     SpansBehind (take_batch_of shape) (take_spans shape takes) (start + take_long shape c x) (taken ++ taken_of x) (spans C shape (count_after shape c x) (take_looks rest takes.end))
 take_spans_past shape takes c start taken (Item seen items) rest b =
-    search (arith, spans_past, take_spans shape takes, take_long shape c (Item seen items), span_of C shape c (look seen (Passes items)), look seen (Passes items), take_phrase-item shape c seen items)
+    search (arith, spans_past, span_of C shape c (look seen (Passes items)), take_phrase-item shape c seen items)
 take_spans_past shape takes c start taken (ItemAfterClose seen again items) rest b =
     let most : ℕ = take_batch_of shape in
     let next : Count = count_after shape c (ItemAfterClose seen again items) in
@@ -163,7 +163,7 @@ take_spans_past shape takes c start taken (ItemAfterClose seen again items) rest
     (omega (arith, take_phrase-after shape c seen again items)) one in
     grind (arith, take_long, take_looks, append-nil)
 take_spans_past shape takes c start taken (Empty seen) rest b =
-    search (arith, spans_past, take_spans shape takes, take_long shape c (Empty seen), span_of C shape c (look seen (Asks false)), look seen (Asks false), take_phrase-empty shape c seen)
+    search (arith, spans_past, span_of C shape c (look seen (Asks false)), take_phrase-empty shape c seen)
 
 taken_past : (k : ℕ) (taken : List ℕ) (x : Take) → k ≡ length taken → taken_after k x ≡ length (taken ++ taken_of x)
 taken_past k taken x e = grind (arith, past_is, length-append, append-nil)

@@ -1,5 +1,5 @@
 -- A moment of a run: what comes after it, and the state of an auditor of the recorded calls there.
-use Rattle.std.proofs.Common.{◌≡◌, ◌⊎◌, ℕ, suc, ◌+◌, ◌<◌, ◌≤◌, true, List, [], ◌∷◌, ◌++◌, length, sym, ap, subst, ◌∙◌, arith, length-append}
+use Rattle.std.proofs.Common.{◌≡◌, ◌⊎◌, ℕ, suc, ◌+◌, ◌<◌, ◌≤◌, true, List, [], ◌∷◌, ◌++◌, length, sym, ap, subst, arith, length-append}
 use Rattle.queue_calls.specs.Queue.{Capacity, exactly}
 use Rattle.queue_calls.specs.Calls as calls
 use Rattle.queue_calls.specs.Counting.{Kept, Counts, AreCounted}
@@ -9,10 +9,10 @@ use Rattle.bits_core.specs.declared.events.Event.{Event}
 use Rattle.bits_core.specs.declared.shapes.Shape.{Shape}
 use Rattle.bits_core.specs.Shape.{capacity_of}
 use Rattle.bits_core.specs.Bits.{same_side}
-use Rattle.bits_core.specs.Made.{subhistory, clock, IsPlaceOf, IsPrefix, events_of}
+use Rattle.bits_core.specs.Made.{subhistory, clock, IsPlaceOf, IsPrefix}
 use Rattle.ring_core.specs.Counts.{first_count}
 use Rattle.ring_core.specs.Puts.{Puts, put_phrases, close_phrase, put_program, FollowsPuts}
-use Rattle.ring_core.specs.Takes.{Takes, take_program, FollowsTakes}
+use Rattle.ring_core.specs.Takes.{Takes, take_program}
 use Rattle.ring_core.specs.Items.{events_in}
 use Rattle.ring_core.proofs.OverSpans.Spans.{counts_begun, begun_items, ended_items}
 use Rattle.ring_core.proofs.OverSpans.LookSpans.{put_spans, take_spans}

@@ -1,5 +1,5 @@
 -- The recorded calls of every run of the ring can be counted, one event after the other.
-use Rattle.std.proofs.Common.{◌≡◌, ◌⊎◌, inl, inr, ℕ, suc, ◌<◌, false, List, [], ◌∷◌, ◌++◌, refl, sym, subst, arith}
+use Rattle.std.proofs.Common.{◌≡◌, ◌⊎◌, inl, inr, ℕ, suc, ◌<◌, false, List, [], ◌∷◌, ◌++◌, refl, arith}
 use Rattle.queue_calls.specs.Queue.{exactly}
 use Rattle.queue_calls.specs.Calls as calls
 use Rattle.queue_calls.specs.Counting.{Kept, kept, AreCounted}

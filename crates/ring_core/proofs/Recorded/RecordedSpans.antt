@@ -1,5 +1,5 @@
 -- The spans of a side after its first ones: what had begun and ended there, and within the next one.
-use Rattle.std.proofs.Common.{◌≡◌, inl, inr, ℕ, ◌+◌, ◌-◌, ◌≤◌, List, [], ◌∷◌, ◌++◌, length, refl, sym, ap, ◌∙◌, arith, append_assoc, append-nil, length-append}
+use Rattle.std.proofs.Common.{◌≡◌, inl, inr, ℕ, ◌+◌, ◌-◌, ◌≤◌, List, ◌∷◌, ◌++◌, length, refl, sym, ap, ◌∙◌, arith, append_assoc, append-nil, length-append}
 use Rattle.bits_core.specs.Made.{IsPrefix}
 use Rattle.ring_core.proofs.OverSpans.Spans.{Span, counts, items_of, before_count, whole, counts_begun, counts_ended, begun_items, ended_items, IsSpanAt}
 use Rattle.ring_core.proofs.OverSpans.Timeline.{AllProper, begun_items_past, begun_items_first, ended_items_cons, length-begun_items, length-ended_items, none_begun, if_true}
