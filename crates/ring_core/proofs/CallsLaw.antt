@@ -147,7 +147,8 @@ module _ (shape : Shape) (h : List Event) (puts : Puts) (takes : Takes) (run : I
   put_word : (before after : List Made) (cell item : ℕ) → put_program shape puts ≡ before ++ (word_write (width_of shape) cell item ++ after) →
       WordSpan P shape 0 (put_spans shape puts) before (word_write (width_of shape) cell item ++ after) cell
   put_word before after cell item program =
-      grind (arith, word_there P shape first_count (put_looks puts.puts) (close_phrase puts.closes) (no_word P puts.closes) before after cell item (sym (puts_as_looks shape first_count puts.puts puts.closes) ∙ program), put_looks puts.puts, no_word P puts.closes, puts_as_looks shape first_count puts.puts puts.closes)
+      word_there P shape first_count (put_looks puts.puts) (close_phrase puts.closes) (no_word P puts.closes) before after cell item
+      (sym (puts_as_looks shape first_count puts.puts puts.closes) ∙ program)
 
   take_word : (before after : List Made) (cell item : ℕ) → take_program shape takes ≡ before ++ (word_read (width_of shape) cell item ++ after) →
       WordSpan C shape 0 (take_spans shape takes) before (word_read (width_of shape) cell item ++ after) cell

@@ -70,4 +70,5 @@ one-calls shape z (x ∷ takes) end (is, p) = grind (arith, append_assoc, one-ap
 
 pub last-takes_read_one : LastTakesReadOne
 last-takes_read_one shape calls p made i v rest e last =
-    grind (arith, one_at (row_read_by C) (modulus_of shape) made (Read (row_read_by C i) v) rest (subst (AllOne (row_read_by C) (modulus_of shape)) e (one-calls shape first_count calls.takes calls.end p)) i v refl last, one-calls shape first_count calls.takes calls.end p)
+    one_at (row_read_by C) (modulus_of shape) made (Read (row_read_by C i) v) rest
+    (subst (AllOne (row_read_by C) (modulus_of shape)) e (one-calls shape first_count calls.takes calls.end p)) i v refl last

@@ -248,7 +248,8 @@ none-asks seen answer = none-append (scan_phrase (row_bit P) seen) (Read X answe
 
 none-twice : (seen again : ℕ) → NoCells (scan_phrase (row_bit P) seen ++ Read X true ∷ scan_phrase (row_bit P) again)
 none-twice seen again =
-    grind (arith, none-append (scan_phrase (row_bit P) seen) (Read X true ∷ scan_phrase (row_bit P) again) (none-scan P seen) (none-append (Read X true ∷ []) (scan_phrase (row_bit P) again) (none-one (Read X true) refl) (none-scan P again)), none-append (Read X true ∷ []) (scan_phrase (row_bit P) again) (none-one (Read X true) refl) (none-scan P again), none-scan P seen, none-scan P again, none-one (Read X true) refl)
+    none-append (scan_phrase (row_bit P) seen) (Read X true ∷ scan_phrase (row_bit P) again) (none-scan P seen)
+    (none-append (Read X true ∷ []) (scan_phrase (row_bit P) again) (none-one (Read X true) refl) (none-scan P again))
 
 in_take : (shape : Shape) → InsideOf (take_phrase shape) accesses_before_word taken_of shape
 in_take shape c (Empty seen) m j at = absurd (none-asks seen false m j at)

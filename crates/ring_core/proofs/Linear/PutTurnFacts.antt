@@ -61,7 +61,8 @@ put_turns-numbered shape c start (Stored seen items ∷ puts) closes t last e =
     let long = long_is shape c seen items in
     let front = until_is shape c seen items in
     numbered_call (nat_lt (start + until_count shape c seen items) t) last c.number (enqueue_turns c.number start stop items) rest
-    (λ f. moves_numbered 0 last c.number start stop items rest (put_turns-numbered shape next stop puts closes t last (grind (arith, ltb-true, begun_past_count y ys (t - start), past_is c.number items))))
+    (λ f. moves_numbered 0 last c.number start stop items rest
+    (put_turns-numbered shape next stop puts closes t last (grind (arith, ltb-true, begun_past_count y ys (t - start), past_is c.number items))))
     (λ f. grind (arith, ltb-false, put_turns-none shape next stop puts closes t, before_put_ends shape c seen items, begun_before_count y ys (t - start)))
 put_turns-numbered shape c start (Full seen ∷ puts) closes t last e =
     let stop : ℕ = start + put_long shape c (Full seen) in
@@ -108,9 +109,11 @@ put_turns-closed shape c start (Full seen ∷ puts) t l =
 abbrev pub Stand : List Span → List Span → (start k : ℕ) → Type 0
 Stand all xs start k = (s n : ℕ) (x : Span) → IsSpanAt xs s n x → IsSpanAt all (start + s) (k + n) x
 
-pub stand_on : (all : List Span) (y : Span) (ys : List Span) (start stop k k' : ℕ) → stop ≡ start + whole y → k' ≡ k + counts y.outcome → Stand all (y ∷ ys) start k → Stand all ys stop k'
+pub stand_on :
+    (all : List Span) (y : Span) (ys : List Span) (start stop k k' : ℕ) → stop ≡ start + whole y → k' ≡ k + counts y.outcome → Stand all (y ∷ ys) start k → Stand all ys stop k'
 stand_on all y ys start stop k k' e f stand s n x st =
-    stands_at all (start + (whole y + s)) (stop + s) (k + (counts y.outcome + n)) (k' + n) x (omega (arith, e)) (omega (arith, f)) (stand (whole y + s) (counts y.outcome + n) x (inr (s, n, refl, refl, st)))
+    stands_at all (start + (whole y + s)) (stop + s) (k + (counts y.outcome + n)) (k' + n) x (omega (arith, e)) (omega (arith, f))
+    (stand (whole y + s) (counts y.outcome + n) x (inr (s, n, refl, refl, st)))
 
 pub stand_first : (all : List Span) (y : Span) (ys : List Span) (start k : ℕ) → Stand all (y ∷ ys) start k → IsSpanAt all start k y
 stand_first all y ys start k stand = stands_at all (start + 0) start (k + 0) k y (omega arith) (omega arith) (stand 0 0 y (inl (refl, refl, refl)))
@@ -133,7 +136,8 @@ module _ (shape : Shape) (h : List Event) (puts : Puts) (takes : Takes) (law : L
       (IsMove x.kind → x.number < counts_begun (put_spans shape puts) (length (subhistory P h)))
 
   pub puts_hold :
-      (c : Count) (start : ℕ) (rest : List Put) (closes : Bool) → Stand (put_spans shape puts) (spans P shape c (put_looks rest)) start c.number → start + events_in (put_phrases shape c rest) ≡ all_events →
+      (c : Count) (start : ℕ) (rest : List Put) (closes : Bool) → Stand (put_spans shape puts) (spans P shape c (put_looks rest)) start c.number →
+      start + events_in (put_phrases shape c rest) ≡ all_events →
       c.number + in_all (spans P shape c (put_looks rest)) ≡ in_all (put_spans shape puts) →
       (x : Op) → In x (put_turns shape c start rest closes (length (subhistory P h))) → IsPut x
   puts_hold c start [] false stand e f x i = absurd i
@@ -185,7 +189,12 @@ module _ (shape : Shape) (h : List Event) (puts : Puts) (takes : Takes) (law : L
                 begins = omega (arith, e);
                 not_begun = begun_there (batch_of shape) (put_spans shape puts) proper_puts start c.number y st;
                 ended = λ s. absurd s;
-                full = λ s m l. omega (arith, few, ended_up (take_batch_of shape) (take_spans shape takes) proper_takes (clock C h m) (clock C h first) (clock_rises C h m first (last_place P h start first m is_first l)));
+                full = λ s m l. omega (
+                  arith,
+                  few,
+                  ended_up (take_batch_of shape) (take_spans shape takes) proper_takes (clock C h m) (clock C h first)
+                      (clock_rises C h m first (last_place P h start first m is_first l)),
+                );
                 close = λ s. absurd s;
               },
               λ s. absurd s,

@@ -184,5 +184,6 @@ module _ (shape : Shape) (h : List Event) (puts : Puts) (takes : Takes) (law : L
               tt,
               λ s. absurd s,
             ))
-        | inr j ↦ takes_hold (count_after shape c x) stop rest end (stand_on (take_spans shape takes) u us start stop k k (omega (arith, long)) (omega arith) stand) (told_on c start x rest end told) y j
+        | inr j ↦ takes_hold (count_after shape c x) stop rest end (stand_on (take_spans shape takes) u us start stop k k (omega (arith, long)) (omega arith) stand)
+            (told_on c start x rest end told) y j
       ]

@@ -49,7 +49,8 @@ same_next made xs ys a b t go go' (rest, e) (rest', e') =
 
 -- what a put of items does after a scan: it stores those for which the value read leaves room
 abbrev stores : Shape → Count → List ℕ → ℕ → List Made
-stores shape c items seen = words_phrase shape c.number (take (room_in shape (c.number % modulus_of shape) seen) items) ++ batch_phrase shape P c (take (room_in shape (c.number % modulus_of shape) seen) items)
+stores shape c items seen = words_phrase shape c.number (take (room_in shape (c.number % modulus_of shape) seen) items) ++
+    batch_phrase shape P c (take (room_in shape (c.number % modulus_of shape) seen) items)
 
 abbrev put_tree : Shape → Count → List ℕ → Tree
 put_tree shape c items = scans (row_read_by P) (modulus_of shape) (λ seen. makes (stores shape c items seen) Ends)
@@ -75,7 +76,8 @@ put_goes shape calls (Put items) made a goes =
     let (more, (x, of, more_is, are, open_still), begins_x) = goes true (λ due. refl) in
     let is = put_calls.are-last shape first_count calls.puts x (subst (λ (m : puts.Puts). ArePuts shape 0 m.puts) more_is are) in (
       put_phrases shape first_count calls.puts ++ put_phrase shape (count_of shape calls) x,
-      makes_along never (put_phrases shape first_count calls.puts) (put_phrase shape (count_of shape calls) x) (put_tree shape (count_of shape calls) items) (put_along shape (count_of shape calls) items x is of),
+      makes_along never (put_phrases shape first_count calls.puts) (put_phrase shape (count_of shape calls) x)
+          (put_tree shape (count_of shape calls) items) (put_along shape (count_of shape calls) items x is of),
       subst (λ l. IsPrefix (made ++ answered a true ∷ []) l) (ap (put_program shape) more_is ∙ put_calls.program-push shape calls x) begins_x,
     )
 put_goes shape calls Close made a goes =
@@ -195,9 +197,15 @@ module _ (shape : Shape) (wanted : ℕ) where
         let count : List Made = batch_phrase shape C k (item ∷ items) in
         let tree : Tree = count_tree shape k (suc m) next in
         let is_shown : shows k seen ≡ true = grind (arith, nat_tests, batch.some) in
-        let counted : m ≡ length items → Anyway part (count ++ ys) tree = λ e. rw (e, ← past_is k.number (item ∷ items)) (makes_along part count ys (next (count_after shape k (Item seen (item ∷ items)))) on) in
-        let some : m < length items → 1 ≤ length (unary_phrase k.bits ((k.number + suc m) % modulus_of shape)) = λ l. grind (arith, bits_long shape k (zeros (suc m)) is, past_is, zeros-long, batch.few, take_batch_below) in
-        rw (is_shown, append_assoc (words_read shape k.number (item ∷ items)) count ys, append_assoc (word_read (width_of shape) (k.number % capacity_of shape) item) (words_read shape (suc k.number) items) (count ++ ys))
+        let counted : m ≡ length items → Anyway part (count ++ ys) tree =
+        λ e. rw (e, ← past_is k.number (item ∷ items)) (makes_along part count ys (next (count_after shape k (Item seen (item ∷ items)))) on) in
+        let some : m < length items → 1 ≤ length (unary_phrase k.bits ((k.number + suc m) % modulus_of shape)) =
+        λ l. grind (arith, bits_long shape k (zeros (suc m)) is, past_is, zeros-long, batch.few, take_batch_below) in
+        rw (
+          is_shown,
+          append_assoc (words_read shape k.number (item ∷ items)) count ys,
+          append_assoc (word_read (width_of shape) (k.number % capacity_of shape) item) (words_read shape (suc k.number) items) (count ++ ys),
+        )
         (digits_along part (k.number % capacity_of shape) item (width_of shape) (words shape (suc k.number) m tree) (words_read shape (suc k.number) items ++ (count ++ ys))
         (words_along (suc k.number) m items tree (count ++ ys) counted (λ before a b is. ((λ l. (may before a b is).0 (omega (arith, l))), (λ l. (may before a b is).1 (omega (arith, l)))))
         (λ l. row_asked (unary_phrase k.bits ((k.number + suc m) % modulus_of shape)) (next (count_at shape k (k.number + suc m))) (some l))
@@ -256,7 +264,8 @@ wanted_allowed shape wanted k (Empty seen) is of = record {}
 -- a take that goes on, after those before it
 pub take_goes :
     (shape : Shape) (wanted : ℕ) (calls : Takes) (made : List Made) (a : Access) → TakeGoesOn shape wanted calls made a →
-    (end : End) × AreTakes shape 0 calls.takes end × (xs : List Made) × ((n : ℕ) → Anyway never xs (takes_tree shape wanted (suc n) (count_taken shape calls))) × IsPrefix (made ++ answered a true ∷ []) (take_phrases shape first_count calls.takes ++ xs)
+    (end : End) × AreTakes shape 0 calls.takes end × (xs : List Made) ×
+    ((n : ℕ) → Anyway never xs (takes_tree shape wanted (suc n) (count_taken shape calls))) × IsPrefix (made ++ answered a true ∷ []) (take_phrases shape first_count calls.takes ++ xs)
 take_goes shape wanted calls made a goes =
     let (more, has, begins_x) = goes true (λ due. refl) in
     let k : Count = count_taken shape calls in

@@ -94,7 +94,12 @@ items_short shape c (item ∷ next ∷ items) scans is some few = search (arith,
 -- no take is longer than the bound
 pub takes-are_short : TakesAreShort
 takes-are_short shape c (Item seen items) is ((below, few, room), batch) =
-    grind (arith, length-append (scan_phrase (row_read_by C) seen) (items_phrase shape c items), length-scan (row_read_by C) seen, items_short shape c items (suc seen) is batch.some (omega (arith, below)))
+    grind (
+      arith,
+      length-append (scan_phrase (row_read_by C) seen) (items_phrase shape c items),
+      length-scan (row_read_by C) seen,
+      items_short shape c items (suc seen) is batch.some (omega (arith, below)),
+    )
 takes-are_short shape c (ItemAfterClose seen again items) is ((below, none), (below', few, room), batch) = search (arith, length-append, length-two_scans, items_short)
 takes-are_short shape c (Empty seen) is (below, none) = grind (arith, length-append (scan_phrase (row_read_by C) seen) (Read X false ∷ []), length-scan (row_read_by C) seen)
 

@@ -242,7 +242,8 @@ one-puts shape c (x ∷ puts) close (is, are) = grind (arith, append_assoc, one-
 
 pub last-puts_read_one : LastPutsReadOne
 last-puts_read_one shape calls p made i v rest e last =
-    grind (arith, one_at (row_read_by P) (modulus_of shape) made (Read (row_read_by P i) v) rest (subst (AllOne (row_read_by P) (modulus_of shape)) e (one-puts shape first_count calls.puts calls.closes p)) i v refl last, one-puts shape first_count calls.puts calls.closes p)
+    one_at (row_read_by P) (modulus_of shape) made (Read (row_read_by P i) v) rest
+    (subst (AllOne (row_read_by P) (modulus_of shape)) e (one-puts shape first_count calls.puts calls.closes p)) i v refl last
 
 pub scans-or_closes : ScansOrCloses
 scans-or_closes shape puts x rest are g = begins_call shape (count_behind shape puts) x rest (from_calls shape puts (x ∷ rest) are g)

@@ -50,7 +50,8 @@ takes-go_on shape wanted calls b made a y rest (part, made_is) goes are e =
     let on : Along (Parting shape wanted) phrases (part ++ y ∷ rest) (takes_tree shape wanted (suc (length ys)) k) =
     subst (λ l. Along (Parting shape wanted) phrases l (takes_tree shape wanted (suc (length ys)) k)) (sym right)
     (takes_along shape wanted (Parting shape wanted) (suc (length ys)) k ys b.end (omega arith) (calls_are_count shape calls) are_ys (any_allowed shape wanted) phrases) in
-    elim (next_along (Parting shape wanted) phrases part x y later rest (takes_tree shape wanted (suc (length ys)) k) (no_parting shape wanted) (subst (λ l. Along never phrases l (takes_tree shape wanted (suc (length ys)) k)) (sym left) (go (length ys) phrases)) on) [
+    elim (next_along (Parting shape wanted) phrases part x y later rest (takes_tree shape wanted (suc (length ys)) k) (no_parting shape wanted)
+    (subst (λ l. Along never phrases l (takes_tree shape wanted (suc (length ys)) k)) (sym left) (go (length ys) phrases)) on) [
       | inl alike ↦ inl (alike ∙ access_back a true)
       | inr parts ↦ inr (grind (arith, access_back))
     ]

@@ -45,7 +45,8 @@ next_along part before [] x y xs ys Ends apart go on = absurd go
 next_along part before [] x y xs ys (Asks a next) apart (inl (e, go)) on = grind (arith, append-nil)
 next_along part before [] x y xs ys (Asks a next) apart (inr bad) on = absurd bad
 next_along part before (z ∷ made) x y xs ys Ends apart go on = absurd go
-next_along part before (z ∷ made) x y xs ys (Asks a next) apart (inl (e, go)) (inl (f, on)) = grind (arith, append_assoc, next_along part (before ++ z ∷ []) made x y xs ys (next (answer_of z)) apart go on)
+next_along part before (z ∷ made) x y xs ys (Asks a next) apart (inl (e, go)) (inl (f, on)) =
+    grind (arith, append_assoc, next_along part (before ++ z ∷ []) made x y xs ys (next (answer_of z)) apart go on)
 next_along part before (z ∷ made) x y xs ys (Asks a next) apart (inl (e, go)) (inr parts) = grind arith
 next_along part before (z ∷ made) x y xs ys (Asks a next) apart (inr bad) on = absurd bad
 

@@ -91,7 +91,10 @@ pub all_proper :
     AllProper most (spans s shape c looks)
 all_proper most s shape c [] fits h p = tt
 all_proper most s shape c (l ∷ looks) fits h p =
-    grind (arith, count_some most s shape c l.outcome fits h p.0, length-scan (row_read_by s) l.seen, after_look shape c l.outcome, look_is_count shape c l.outcome h, all_proper most s shape (after_look shape c l.outcome) looks fits (look_is_count shape c l.outcome h) p.1)
+    let r = count_some most s shape c l.outcome fits h p.0 in (
+      record { scan = omega (arith, length-scan (row_read_by s) l.seen); few = r.0; count = r.1 },
+      all_proper most s shape (after_look shape c l.outcome) looks fits (look_is_count shape c l.outcome h) p.1,
+    )
 
 -- the spans of calls that follow one another are proper
 pub proper_puts : (shape : Shape) (puts : Puts) → ArePuts shape 0 puts.puts → AllProper (batch_of shape) (put_spans shape puts)

@@ -6,7 +6,7 @@ use Rattle.bits_core.specs.declared.events.Side.{Side}
 use Rattle.bits_core.specs.declared.events.Side.TheVariants.{P, C}
 use Rattle.bits_core.specs.declared.events.Event.{Event}
 use Rattle.bits_core.specs.declared.shapes.Shape.{Shape}
-use Rattle.bits_core.specs.Shape.{modulus_of}
+use Rattle.bits_core.specs.Shape.{modulus_of, batch_of, take_batch_of}
 use Rattle.bits_core.specs.Bits.{other}
 use Rattle.bits_core.specs.Lawful.{IsLawful}
 use Rattle.bits_core.specs.Made.{Made, subhistory, clock, place_of, events_of, IsPrefix}
@@ -141,11 +141,13 @@ pub puts_regular :
     (shape : Shape) (h : List Event) → IsLawful shape h → (puts : Puts) (takes : Takes) → FollowsPuts shape h puts → FollowsTakes shape h takes →
     AreRegular (modulus_of shape) (clock P h) (clock C h) (put_spans shape puts) (take_spans shape takes)
 puts_regular shape h lawful puts takes follows_puts follows_takes =
-    search (arith, regular_scans shape h lawful P (put_looks puts.puts) (take_looks takes.takes takes.end) (close_phrase puts.closes), take_batch_below shape, takes_pass shape 0 takes.takes takes.end follows_takes.are, put_events shape h puts follows_puts, take_events shape h takes follows_takes)
+    regular_scans shape h lawful P (put_looks puts.puts) (take_looks takes.takes takes.end) (close_phrase puts.closes) [] tt (take_batch_of shape) (take_batch_below shape) (takes_pass shape 0 takes.takes takes.end follows_takes.are)
+    (put_events shape h puts follows_puts) (take_events shape h takes follows_takes)
 
 -- the scans of takes are regular, over the count writes of puts
 pub takes_regular :
     (shape : Shape) (h : List Event) → IsLawful shape h → (puts : Puts) (takes : Takes) → FollowsPuts shape h puts → FollowsTakes shape h takes →
     AreRegular (modulus_of shape) (clock C h) (clock P h) (take_spans shape takes) (put_spans shape puts)
 takes_regular shape h lawful puts takes follows_puts follows_takes =
-    search (arith, regular_scans shape h lawful C (take_looks takes.takes takes.end) (put_looks puts.puts), quiet_close puts.closes, batch_below shape, puts_pass shape 0 puts.puts follows_puts.are, take_events shape h takes follows_takes, put_events shape h puts follows_puts)
+    regular_scans shape h lawful C (take_looks takes.takes takes.end) (put_looks puts.puts) [] (close_phrase puts.closes) (quiet_close puts.closes) (batch_of shape) (batch_below shape) (puts_pass shape 0 puts.puts follows_puts.are)
+    (take_events shape h takes follows_takes) (put_events shape h puts follows_puts)

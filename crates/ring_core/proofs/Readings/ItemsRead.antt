@@ -215,7 +215,8 @@ first_put :
     (shape : Shape) (c : Count) (x : Put) (ys : List Put) (b : Bool) (tail : List Made) → IsCount shape c → IsPut shape c.number x →
     ArePuts shape c.number ys → put_phrase shape c x ++ tail ≡ puts_from shape c ys b → (more : List Put) × (ys ≡ x ∷ more)
 first_put shape c (Stored u i) ys b tail is p q e =
-    grind (arith, same_stored shape c u i ys b (batch_phrase shape P c i ++ tail) is p q (count_first shape c i tail is p.2) (sym (append_assoc (head_of shape c (Stored u i)) (batch_phrase shape P c i) tail) ∙ e), count_first shape c i tail is p.2, append_assoc (head_of shape c (Stored u i)) (batch_phrase shape P c i) tail)
+    same_stored shape c u i ys b (batch_phrase shape P c i ++ tail) is p q (count_first shape c i tail is p.2)
+    (sym (append_assoc (head_of shape c (Stored u i)) (batch_phrase shape P c i) tail) ∙ e)
 first_put shape c (Full u) ys b tail is p q e = same_full shape c u ys b tail p q e
 
 -- puts whose accesses begin with those of complete puts begin with these, and then continue from their count

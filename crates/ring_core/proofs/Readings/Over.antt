@@ -162,7 +162,8 @@ puts_begin shape a b p q done rest parts begun =
 
 pub puts_over-read : PutsOverAreRead
 puts_over-read shape h a b p q =
-    grind (arith, over_read (puts_go_by_calls shape) P (subhistory P h) first_count a.puts b.puts (close_phrase a.closes) (close_phrase b.closes) p.events q.events (puts_begin shape a b p.are q.are) (puts_begin shape b a q.are p.are), puts_go_by_calls shape, puts_begin shape a b p.are q.are, puts_begin shape b a q.are p.are)
+    over_read (puts_go_by_calls shape) P (subhistory P h) first_count a.puts b.puts (close_phrase a.closes) (close_phrase b.closes) p.events q.events
+    (puts_begin shape a b p.are q.are) (puts_begin shape b a q.are p.are)
 
 -- ---- takes
 

@@ -1,5 +1,5 @@
 -- What one of a side's own events records of its calls.
-use Rattle.std.proofs.Common.{◌≡◌, ℕ, suc, ◌+◌, ◌-◌, ◌*◌, ◌<◌, ◌≤◌, Bool, true, false, List, [], ◌∷◌, length, arith, length-append}
+use Rattle.std.proofs.Common.{◌≡◌, ℕ, suc, ◌+◌, ◌-◌, ◌*◌, ◌<◌, ◌≤◌, Bool, true, false, List, [], ◌∷◌, length, arith, length-append, sym, subst}
 use Rattle.queue_calls.specs.Calls.{Event, PutBegin, CloseBegin, CloseEnd, TakeBegin, TakeEnd, Shut}
 use Rattle.bits_core.specs.declared.events.Side.TheVariants.{C}
 use Rattle.bits_core.specs.declared.events.Bit.TheVariants.{X}
@@ -15,6 +15,7 @@ use Rattle.ring_core.specs.Takes.{Take, End, Open, Closed, Takes, end_phrase, ta
 use Rattle.ring_core.proofs.Machines.Lengths.{length-scan}
 use Rattle.ring_core.proofs.Readings.Over.{puts_total, takes_total}
 use Rattle.ring_core.proofs.Recorded.TellsByOne.{place, first_told, between_told, last_told, told, Told, tells_so}
+use Rattle.ring_core.specs.Over.{puts_over, takes_over}
 
 -- ---- puts
 
@@ -62,7 +63,11 @@ in_puts shape offers calls i before after told l h1 = grind (arith, put_program_
 
 pub puts-tell : PutsTellByOne
 puts-tell shape offers calls i l =
-    search (arith, put_told_is shape offers 0 first_count calls.puts calls.closes i, in_puts, tells_so (put_events shape) (stored_after shape) (put_begin offers) put_answer (put_last calls.closes) (events_of_puts shape) (put_long shape) 0 first_count calls.puts i (puts_total shape first_count))
+    subst (PutTells shape offers calls i (puts_over shape first_count calls.puts i) (puts_over shape first_count calls.puts (suc i)))
+    (sym (put_told_is shape offers 0 first_count calls.puts calls.closes i))
+    (in_puts shape offers calls i _ _ _ l
+    (tells_so (put_events shape) (stored_after shape) (put_begin offers) put_answer (put_last calls.closes) (events_of_puts shape) (put_long shape) 0 first_count calls.puts i
+    (puts_total shape first_count)))
 
 -- ---- takes
 
@@ -114,4 +119,8 @@ in_takes shape wants calls i before after told l h1 = grind (arith, take_program
 
 pub takes-tell : TakesTellByOne
 takes-tell shape wants calls i l =
-    search (arith, take_told_is shape wants 0 first_count calls.takes calls.end i, in_takes, tells_so (take_events shape) (count_after shape) (take_begin wants) take_answer (take_last wants (0 + length calls.takes) calls.end) (events_of_takes shape) (take_long shape) 0 first_count calls.takes i (takes_total shape first_count))
+    subst (TakeTells shape wants calls i (takes_over shape first_count calls.takes i) (takes_over shape first_count calls.takes (suc i)))
+    (sym (take_told_is shape wants 0 first_count calls.takes calls.end i))
+    (in_takes shape wants calls i _ _ _ l
+    (tells_so (take_events shape) (count_after shape) (take_begin wants) take_answer (take_last wants (0 + length calls.takes) calls.end) (events_of_takes shape) (take_long shape) 0
+    first_count calls.takes i (takes_total shape first_count)))

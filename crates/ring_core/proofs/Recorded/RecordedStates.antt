@@ -164,7 +164,11 @@ put_view shape offers h puts p stored left put (inr (inl r)) = runs_view shape o
 put_view shape offers h puts p stored left put (inr (inr (inl r))) =
     last_view shape offers puts r.count r.start p stored left put (omega (arith, r.place_is)) r.behind r.left_is (ap offered_by r.put_is) (inl (r.again, r.put_is))
 put_view shape offers h puts p stored left put (inr (inr (inr r))) =
-    grind (arith, last_view shape offers puts r.count r.start p stored left put (omega (arith, r.place_is)) r.behind r.left_is (ap offered_by r.put_is) (inr (omega (arith, r.place_is, r.behind.all), r.put_is)))
+    grind (
+      arith,
+      last_view shape offers puts r.count r.start p stored left put (omega (arith, r.place_is)) r.behind r.left_is (ap offered_by r.put_is)
+          (inr (omega (arith, r.place_is, r.behind.all), r.put_is)),
+    )
 
 -- ---- the consumer
 
