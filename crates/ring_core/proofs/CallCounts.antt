@@ -1,13 +1,8 @@
 -- The calls count and take what their spans do.
 use Rattle.std.proofs.Common.{◌≡◌, ℕ, zero, suc, ◌+◌, ◌-◌, Bool, true, false, if◌then◌else◌, List, [], ◌∷◌, ◌++◌, refl, ap, arith, length-append, ◌≤◌, inl, inr}
-use Rattle.std.proofs.lemmas.Bool.Decides.{nat_tests}
-use Rattle.bits_core.specs.declared.events.Side.TheVariants.{P, C}
-use Rattle.bits_core.specs.declared.shapes.Shape.{Shape}
+use Rattle.ring_core.proofs.Common.{nat_tests, P, C, Shape, Count, Take, Item, ItemAfterClose, Empty, End, taken_in, count_after, take_phrase, events_in}
 use Rattle.register_core.specs.ScanState.{row_read_by}
-use Rattle.ring_core.specs.Counts.{Count}
 use Rattle.ring_core.specs.Puts.{Put, Stored, Full, stored_in, stored_after}
-use Rattle.ring_core.specs.Takes.{Take, Item, ItemAfterClose, Empty, End, taken_in, count_after, take_phrase}
-use Rattle.ring_core.specs.Items.{events_in}
 use Rattle.ring_core.proofs.Machines.Lengths.{length-scan}
 use Rattle.ring_core.proofs.OverSpans.Timeline.{ended_past}
 use Rattle.ring_core.proofs.OverSpans.Spans.{Span, Passes, Stops, Asks, whole, counts_begun, counts_ended, sizes, tally, IsSpanAt, counts}

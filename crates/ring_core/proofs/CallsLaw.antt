@@ -1,21 +1,13 @@
 -- The law of the ring over calls, from the law over spans.
 use Rattle.std.proofs.Common.{◌≡◌, ℕ, suc, ◌+◌, ◌-◌, ◌*◌, ◌%◌, ◌<◌, ◌≤◌, false, Some, List, [], ◌++◌, length, refl, sym, ap, subst, ◌∙◌, arith, length-append}
 use Rattle.std.specs.Prelude.{slice_get}
-use Rattle.std.proofs.Math.Nat.{suc-mul}
-use Rattle.std.proofs.lemmas.Option.{slice_get_within}
-use Rattle.bits_core.specs.declared.events.Side.{Side}
-use Rattle.bits_core.specs.declared.events.Side.TheVariants.{P, C}
+use Rattle.ring_core.proofs.Common.{suc-mul, slice_get_within, Side, P, C, Shape, batch_of, capacity_of, modulus_of, take_batch_of, width_of, other, first_count, accesses_before_word, Take, Item}
+use Rattle.ring_core.proofs.Common.{ItemAfterClose, Empty, Takes, taken_in, take_program, events_in, subhistory_has_place}
 use Rattle.bits_core.specs.declared.events.Event.{Event}
-use Rattle.bits_core.specs.declared.shapes.Shape.{Shape}
-use Rattle.bits_core.specs.Shape.{batch_of, capacity_of, modulus_of, take_batch_of, width_of}
 use Rattle.register_core.specs.Phrases.{word_read, word_write}
-use Rattle.bits_core.specs.Bits.{other}
 use Rattle.bits_core.specs.Made.{Made, subhistory, clock, place_of, IsPlaceOf, IsPrefix}
 use Rattle.register_core.specs.ScanState.{row_read_by}
-use Rattle.ring_core.specs.Counts.{first_count}
 use Rattle.ring_core.specs.Puts.{Put, Puts, Stored, Full, stored_in, close_phrase, put_program}
-use Rattle.ring_core.specs.Takes.{accesses_before_word, Take, Item, ItemAfterClose, Empty, Takes, taken_in, take_program}
-use Rattle.ring_core.specs.Items.{events_in}
 use Rattle.ring_core.proofs.OverSpans.Spans.{Span, items_of, counts, whole, counts_begun, counts_ended, IsSpanAt, sizes, tally}
 use Rattle.ring_core.specs.Items as taken
 use Rattle.ring_core.proofs.OverSpans.LookSpans.{put_looks, take_looks, put_spans, take_spans}
@@ -34,7 +26,6 @@ use Rattle.ring_core.proofs.OverSpans.CallSpans.{stands_at, put_items, put_has_s
 use Rattle.ring_core.proofs.EndedCounts.{puts_ended_is, takes_begun_is}
 use Rattle.ring_core.proofs.ScanPlaces.{ScanSpan, scan_there, none-close}
 use Rattle.ring_core.proofs.CallCounts.{stored_ended_is, taken_begun_is, put_tally, take_tally}
-use Rattle.bits_core.proofs.LawLemmas.{subhistory_has_place}
 
 interval_at : (s : Side) (h : List Event) (i i' e e' start stop : ℕ) → i ≡ i' → e ≡ e' → IsInterval s h i e start stop → IsInterval s h i' e' start stop
 interval_at s h i i' e e' start stop p q r = subst (λ m. IsInterval s h m e' start stop) p (subst (λ m. IsInterval s h i m start stop) q r)

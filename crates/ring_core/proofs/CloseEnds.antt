@@ -1,23 +1,14 @@
 -- If the close has not ended by the producer's clock, no write of the close bit has ended.
 use Rattle.std.proofs.Common.{◌≡◌, ℕ, zero, suc, ◌+◌, ◌<◌, ◌≤◌, Bool, if◌then◌else◌, List, [], ◌∷◌, length, take, drop, refl, sym, ap, ◌∙◌, arith}
-use Rattle.bits_core.specs.declared.events.Side.{Side}
-use Rattle.bits_core.specs.declared.events.Side.TheVariants.{P, C}
-use Rattle.bits_core.specs.declared.events.Bit.TheVariants.{X}
+use Rattle.ring_core.proofs.Common.{Side, P, C, X, Shape, is_by, IsWrite, first_place, subhistory, clock, events_of, IsPlaceOf, IsPrefix, first_count, Puts, put_phrases, put_program, events_in}
+use Rattle.ring_core.proofs.Common.{access_is_made}
 use Rattle.bits_core.specs.declared.events.Access.TheVariants as begins
 use Rattle.bits_core.specs.declared.events.Event.{Event}
-use Rattle.bits_core.specs.declared.shapes.Shape.{Shape}
-use Rattle.bits_core.specs.Bits.{is_by}
-use Rattle.bits_core.specs.Intervals.{IsWrite, first_place}
-use Rattle.bits_core.specs.Made.{subhistory, clock, events_of, IsPlaceOf, IsPrefix}
-use Rattle.ring_core.specs.Counts.{first_count}
-use Rattle.ring_core.specs.Puts.{Puts, put_phrases, put_program}
-use Rattle.ring_core.specs.Items.{events_in}
 use Rattle.ring_core.proofs.Readings.Cuts.{at_most_or_above}
 use Rattle.ring_core.proofs.OverSpans.Gates.{clock_up, clock_p}
 use Rattle.ring_core.proofs.HistoryClocks.{clock-yes, clock-no, clock-zero, clocks_of}
 use Rattle.ring_core.proofs.OwnEvents.{by_case}
 use Rattle.ring_core.proofs.CloseReads.{only_close, no_close-puts}
-use Rattle.bits_core.proofs.LawLemmas.{access_is_made}
 
 -- the side's clock advances at its first event
 abbrev GoesOn : Side → List Event → ℕ → Type 0

@@ -1,18 +1,9 @@
 -- Once a take has returned Closed, the lists of every longer history are the same.
 use Rattle.ring_core.proofs.Readings.ItemsRead.{items-are_read}
-use Rattle.ring_core.specs.Puts.{FollowsPuts}
-use Rattle.ring_core.specs.Counts.{first_count}
+use Rattle.ring_core.proofs.Common.{FollowsPuts, first_count, take-append_seam, take-length, filter-append, Side, C, P, subhistory, clock, IsPrefix, FollowsTakes, IsTold, items_put, items_taken}
+use Rattle.ring_core.proofs.Common.{items_put_in, RingLaw, InEveryRun, ClosedStays}
 use Rattle.std.proofs.Common.{◌≡◌, ℕ, ◌≤◌, List, length, take, sym, ap, subst, ◌∙◌, arith, append_assoc, length-append}
-use Rattle.std.proofs.Math.Seq.{take-append_seam, take-length}
-use Rattle.std.proofs.lemmas.List.Elements.{filter-append}
-use Rattle.bits_core.specs.declared.events.Side.{Side}
-use Rattle.bits_core.specs.declared.events.Side.TheVariants.{C, P}
 use Rattle.bits_core.specs.declared.events.Event.{Event}
-use Rattle.bits_core.specs.Made.{subhistory, clock, IsPrefix}
-use Rattle.ring_core.specs.Takes.{FollowsTakes}
-use Rattle.ring_core.specs.Items.{IsTold, items_put, items_taken, items_put_in}
-use Rattle.ring_core.specs.RingLaw.{RingLaw, InEveryRun}
-use Rattle.ring_core.specs.RunLaws.{ClosedStays}
 use Rattle.ring_core.proofs.Readings.Over.{taken-are_read}
 
 -- a side's own events in a prefix are a prefix of those in the whole

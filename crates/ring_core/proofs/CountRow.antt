@@ -1,13 +1,8 @@
 -- The bits of a count: which of them are set after n unary writes, and how many bit writes the next one has.
 use Rattle.std.proofs.Common.{◌≡◌, ℕ, zero, suc, ◌+◌, ◌%◌, ◌<◌, ◌≤◌, Bool, true, false, cond, List, [], ◌∷◌, ◌++◌, length, refl, ap, arith, ◌∙◌, ◌⊎◌, inl, inr, length-append}
 use Rattle.std.proofs.lemmas.Bool.{cases_lt}
-use Rattle.std.proofs.lemmas.List.{length-map, map-append}
-use Rattle.std.proofs.lemmas.Nat.{mod_below}
+use Rattle.ring_core.proofs.Common.{length-map, map-append, mod_below, Side, Shape, batch_of, modulus_of, take_batch_of, Made, Write}
 use Rattle.std.proofs.Math.Nat.{suc-mod, mod_self, mod-eq_of_lt, zero-mod}
-use Rattle.bits_core.specs.declared.events.Side.{Side}
-use Rattle.bits_core.specs.declared.shapes.Shape.{Shape}
-use Rattle.bits_core.specs.Shape.{batch_of, modulus_of, take_batch_of}
-use Rattle.bits_core.specs.Made.{Made, Write}
 use Rattle.register_core.specs.Row.{RowWrite, row_bit, first_bits, bits_after, writes_in}
 use Rattle.register_core.specs.Unary.{clearing, setting, unary_phrase, unary_writes, row_writes, writes_of, count_writes}
 use Rattle.ring_core.specs.Counts.{number_past, Count, first_count, count_bits, batch_phrase, batch_by, IsCount}

@@ -1,16 +1,8 @@
 -- How many count writes of a side have begun and ended after a number of its events, by its accesses and by its spans.
 use Rattle.std.proofs.Common.{◌≡◌, ℕ, zero, suc, ◌+◌, ◌-◌, ◌*◌, ◌%◌, ◌<◌, ◌≤◌, Bool, true, false, nat_lt, nat_le, if◌then◌else◌, Some, None, List, [], ◌∷◌, ◌++◌, length, take, refl, ap, arith}
-use Rattle.std.proofs.lemmas.Bool.Decides.{nat_tests}
-use Rattle.std.proofs.lemmas.List.{length-map}
-use Rattle.std.proofs.lemmas.List.Elements.{filter_map-append}
-use Rattle.std.proofs.Math.Nat.{zero-mod}
-use Rattle.bits_core.specs.declared.events.Side.{Side}
-use Rattle.bits_core.specs.declared.events.Side.TheVariants.{P, C}
-use Rattle.bits_core.specs.declared.events.Bit.{Bit}
-use Rattle.bits_core.specs.declared.events.Bit.TheVariants.{Cell}
+use Rattle.ring_core.proofs.Common.{nat_tests, length-map, filter_map-append, zero-mod, Side, P, C, Bit, Cell, Shape, modulus_of, number_past, Count, first_count, count_bits, batch_phrase, IsCount}
+use Rattle.ring_core.proofs.Common.{words_phrase, close_phrase}
 use Rattle.bits_core.specs.declared.events.Event.{Event}
-use Rattle.bits_core.specs.declared.shapes.Shape.{Shape}
-use Rattle.bits_core.specs.Shape.{modulus_of}
 use Rattle.bits_core.specs.Made.{Made, Read, Write, begin_event, end_event, events_of}
 use Rattle.register_core.specs.Row.{RowWrite, row_bit, writes_in}
 use Rattle.register_core.specs.Unary.{UnaryWrite, unary_writes, row_writes, writes_of, having_writes, numbered_of, numbered_value}
@@ -18,8 +10,6 @@ use Rattle.register_core.specs.Unary as unary
 use Rattle.register_core.specs.UnaryLaw.{number_in_count, count_write, count_begun}
 use Rattle.register_core.specs.Word.{digit_reads}
 use Rattle.register_core.specs.ScanState.{zero_reads, scan_phrase, row_read_by}
-use Rattle.ring_core.specs.Counts.{number_past, Count, first_count, count_bits, batch_phrase, IsCount}
-use Rattle.ring_core.specs.Puts.{words_phrase, close_phrase}
 use Rattle.ring_core.proofs.OverSpans.Spans.{Outcome, Passes, Stops, Asks, Span, counts, counts_begun, counts_ended, size_of, sizes, tally}
 use Rattle.ring_core.proofs.OverSpans.LookSpans.{Look, words_read, word_part, count_part, look_number, look_bits, after_look, look_accesses, spans}
 use Rattle.ring_core.proofs.Readings.Cuts.{at_most_or_above}

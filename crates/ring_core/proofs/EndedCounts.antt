@@ -1,8 +1,6 @@
 -- How many items are counted, call by call.
 use Rattle.std.proofs.Common.{◌≡◌, ℕ, ◌+◌, ◌-◌, Bool, nat_lt, nat_le, if◌then◌else◌, List, [], ◌∷◌, ◌++◌, length, refl, arith, length-append}
-use Rattle.bits_core.specs.declared.shapes.Shape.{Shape}
-use Rattle.bits_core.specs.Made.{Made}
-use Rattle.ring_core.specs.Counts.{Count, first_count}
+use Rattle.ring_core.proofs.Common.{Shape, Made, Count, first_count}
 use Rattle.ring_core.specs.Puts.{Put, Puts, stored_after, put_phrase}
 use Rattle.ring_core.specs.Takes.{Take, Item, ItemAfterClose, Empty, Takes, count_after, words_read, accesses_before_word, take_phrase}
 use Rattle.ring_core.specs.Items.{events_in, gathered, take_begun, all_put}

@@ -1,14 +1,9 @@
 -- The programs of small runs, access by access: one cell, modulus 3, items of one digit.
 use Rattle.std.proofs.Common.{◌≡◌, ℕ, ◌+◌, ◌<◌, ◌≤◌, true, false, [], ◌∷◌, ◌++◌, refl, arith}
-use Rattle.bits_core.specs.declared.events.Side.TheVariants.{C}
-use Rattle.bits_core.specs.declared.events.Bit.TheVariants.{S, R, X, Cell}
-use Rattle.bits_core.specs.declared.shapes.Shape.{Shape}
+use Rattle.ring_core.proofs.Common.{C, S, R, X, Cell, Shape, first_count, Puts, Stored, put_program, ArePuts, Takes, Item, ItemAfterClose, Empty, Open, Closed, accesses_before_word, take_phrases}
+use Rattle.ring_core.proofs.Common.{take_program, IsTakeBatch, AreTakes, items_put, items_taken, taken_of, IsTold}
 use Rattle.bits_core.specs.Made.{Read, Write}
 use Rattle.register_core.specs.ScanState.{scan_phrase, row_read_by}
-use Rattle.ring_core.specs.Counts.{first_count}
-use Rattle.ring_core.specs.Puts.{Puts, Stored, put_program, ArePuts}
-use Rattle.ring_core.specs.Takes.{Takes, Item, ItemAfterClose, Empty, Open, Closed, accesses_before_word, take_phrases, take_program, IsTakeBatch, AreTakes}
-use Rattle.ring_core.specs.Items.{items_put, items_taken, taken_of, IsTold}
 use Rattle.ring_core.specs.CallsAt.{IsPutAt, IsTakeAt, IsPartAt, puts_ended, takes_begun}
 use Rattle.ring_core.proofs.Cells.ItemPlaces.{StoresItem, TakesItem, put_scan, has_item}
 use Rattle.ring_core.proofs.OverSpans.CallSpans.{put_items}

@@ -1,10 +1,7 @@
 -- The clocks of the two sides of a history.
 use Rattle.std.proofs.Common.{◌≡◌, ◌⊎◌, inr, ℕ, zero, suc, ◌+◌, true, false, List, [], ◌∷◌, refl, arith}
-use Rattle.bits_core.specs.declared.events.Side.{Side}
-use Rattle.bits_core.specs.declared.events.Side.TheVariants.{P, C}
+use Rattle.ring_core.proofs.Common.{Side, P, C, same_side, clock}
 use Rattle.bits_core.specs.declared.events.Event.{Event}
-use Rattle.bits_core.specs.Bits.{same_side}
-use Rattle.bits_core.specs.Made.{clock}
 use Rattle.ring_core.proofs.OverSpans.Clocks.{Clocks}
 pub use Rattle.bits_core.proofs.OwnEvents.{clock-no, clock-yes}
 

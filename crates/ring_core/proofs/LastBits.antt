@@ -1,17 +1,11 @@
 -- A program's reads of the last bit of the other side's count return 1.
 use Rattle.std.proofs.Common.{◌≡◌, ℕ, zero, suc, ◌<◌, Bool, true, List, [], ◌∷◌, ◌++◌, refl, subst, arith, append_assoc}
-use Rattle.bits_core.specs.declared.events.Side.{Side}
-use Rattle.bits_core.specs.declared.events.Side.TheVariants.{C}
-use Rattle.bits_core.specs.declared.events.Bit.{Bit}
-use Rattle.bits_core.specs.declared.events.Bit.TheVariants.{S, X}
-use Rattle.bits_core.specs.declared.shapes.Shape.{Shape}
-use Rattle.bits_core.specs.Shape.{modulus_of}
+use Rattle.ring_core.proofs.Common.{Side, C, Bit, S, X, Shape, modulus_of, Count, first_count}
 use Rattle.bits_core.specs.Made.{Made, Read}
 use Rattle.register_core.specs.Row.{RowWrite, writes_in}
 use Rattle.register_core.specs.Word.{digit_reads}
 use Rattle.register_core.specs.ScanState.{zero_reads, scan_phrase, row_read_by}
 use Rattle.ring_core.specs.Takes.{Take, End, Item, ItemAfterClose, Empty, Open, Closed, count_after, words_read, take_phrase, take_phrases, end_phrase, IsTake, AreTakes}
-use Rattle.ring_core.specs.Counts.{Count, first_count}
 use Rattle.ring_core.specs.GoingOn.{LastTakesReadOne}
 
 -- if the access reads the last bit of a row, it returns 1

@@ -13,11 +13,10 @@ use Rattle.ring_core.proofs.Recorded.RecordedRuns.{recorded_are_counted}
 use Rattle.ring_core.proofs.RingHolds.{law_of_spans}
 use Rattle.ring_core.specs.Recorded.{RecordedIsLinearizable}
 use Rattle.ring_core.specs.CountWrites.{CountsAreWritten, CountsShowNumbers}
-use Rattle.ring_core.specs.Linear.{IsLinearizableRun}
+use Rattle.ring_core.proofs.Common.{IsLinearizableRun, ClosedStays}
 use Rattle.ring_core.proofs.Machines.OneWordMore.{ItemsFitByOneMore, WordsByOneMore}
 use Rattle.ring_core.specs.RingLaw.{CellsAreQuiet, ClosedIsTrue, EmptyIsFresh, FillIsFresh, DrainIsFresh, FullIsFresh, InEveryRun, IsWithin, RingLaw, TakenArePrefix, TakesMatchPuts, WordsAreQuiet}
 use Rattle.ring_core.specs.Ranges.{PutsAreInRange, TakesAreInRange}
-use Rattle.ring_core.specs.RunLaws.{ClosedStays}
 pub use Rattle.ring_core.proofs.Readings.ItemsRead.{puts-are_first as calls_are_first_puts, puts-are_read as puts_are_read, items-are_read as items_put_are_read}
 pub use Rattle.ring_core.proofs.Readings.TakesRead.{takes-are_first as calls_are_first_takes, takes-are_read as takes_are_read}
 pub use Rattle.ring_core.proofs.Recorded.RecordedByOne.{puts-tell as events_tell_by_one_puts, takes-tell as events_tell_by_one_takes}

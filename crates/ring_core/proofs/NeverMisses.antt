@@ -1,21 +1,13 @@
 -- A count whose writer follows its program is never read as 0 in all its bits.
 use Rattle.std.proofs.Common.{◌≡◌, inl, inr, ℕ, zero, suc, ◌+◌, ◌-◌, ◌*◌, ◌≤◌, false, Some, List, [], ◌∷◌, ◌++◌, length, refl, ap, subst, ◌∙◌, arith, append_assoc}
 use Rattle.std.specs.Prelude.{All, slice_get}
-use Rattle.std.proofs.lemmas.List.Elements.{All-nil, All-append}
-use Rattle.std.proofs.lemmas.Nat.{mod_below}
-use Rattle.bits_core.specs.declared.events.Side.{Side}
+use Rattle.ring_core.proofs.Common.{All-nil, All-append, mod_below, Side, Shape, modulus_of, other, IsRead, IsLawful, first_count, made_is_access, subhistory_has_one_place}
 use Rattle.bits_core.specs.declared.events.Event.{Event}
-use Rattle.bits_core.specs.declared.shapes.Shape.{Shape}
-use Rattle.bits_core.specs.Shape.{modulus_of}
-use Rattle.bits_core.specs.Bits.{other}
-use Rattle.bits_core.specs.Intervals.{IsRead}
-use Rattle.bits_core.specs.Lawful.{IsLawful}
 use Rattle.bits_core.specs.Made.{Made, Read, events_of, subhistory, IsPrefix}
 use Rattle.register_core.specs.Row.{row_bit}
 use Rattle.register_core.specs.ScanState.{zero_reads, row_read_by}
 use Rattle.register_core.specs.UnaryLaw.{ReadsZeros}
 use Rattle.register_core.specs.MadeReads.{begin_place, end_place}
-use Rattle.ring_core.specs.Counts.{first_count}
 use Rattle.ring_core.proofs.OverSpans.LookSpans.{Look, look_number, look_accesses}
 use Rattle.ring_core.specs.RunLaws.{NeverReadsAll, NeverMisses, PutsAreSeen, TakesAreSeen}
 use Rattle.ring_core.proofs.Readings.Cuts.{at_most_or_above}
@@ -23,7 +15,6 @@ use Rattle.ring_core.proofs.CountTimes.{IsQuiet, quiet_close, values_from}
 use Rattle.ring_core.proofs.Machines.Lengths.{length-zero_reads}
 use Rattle.ring_core.proofs.OverSpans.RegularScans.{writes_unary, put_events, take_events}
 use Rattle.register_core.proofs.LawLemmas.{numbered_stay_within, reads_are_made_zeros, unary_has_one}
-use Rattle.bits_core.proofs.LawLemmas.{made_is_access, subhistory_has_one_place}
 use Rattle.register_core.proofs.MadeReads.{other_other as other_twice}
 
 -- ---- the values of a count

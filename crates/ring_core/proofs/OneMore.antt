@@ -1,12 +1,7 @@
 -- A history whose two sides follow their programs, and one more event.
 use Rattle.std.proofs.Common.{◌≡◌, List, [], ◌∷◌, ◌++◌, if◌then◌else◌, ap, ◌∙◌, sym, subst}
-use Rattle.bits_core.specs.declared.events.Side.{Side}
-use Rattle.bits_core.specs.declared.events.Side.TheVariants.{P, C}
+use Rattle.ring_core.proofs.Common.{Side, P, C, same_side, events_of, subhistory, IsPrefix, put_program, take_program}
 use Rattle.bits_core.specs.declared.events.Event.{Event}
-use Rattle.bits_core.specs.Bits.{same_side}
-use Rattle.bits_core.specs.Made.{events_of, subhistory, IsPrefix}
-use Rattle.ring_core.specs.Puts.{put_program}
-use Rattle.ring_core.specs.Takes.{take_program}
 use Rattle.ring_core.specs.RunLaws.{RunsByPut, RunsByTake}
 use Rattle.bits_core.proofs.LawLemmas.{lawful_by_one_more, subhistory_changes}
 

@@ -1,20 +1,13 @@
 -- A side's own events before a place of a history, and the writes of its count among them.
 use Rattle.std.proofs.Common.{◌≡◌, inl, inr, ℕ, zero, suc, ◌-◌, ◌≤◌, true, false, Some, List, [], ◌∷◌, ◌++◌, length, take, drop, slice_get, refl, sym, ap, ◌∙◌, take-append-drop, arith}
-use Rattle.std.proofs.Math.Seq.{take-append_seam, take-length}
-use Rattle.std.proofs.lemmas.List.Elements.{filter-append}
-use Rattle.bits_core.specs.declared.events.Side.{Side}
+use Rattle.ring_core.proofs.Common.{take-append_seam, take-length, filter-append, Side, Shape, is_by, doer, IsLawful, count_begun, count_ended, subhistory_has_place}
 use Rattle.bits_core.specs.declared.events.Event.{Event}
-use Rattle.bits_core.specs.declared.shapes.Shape.{Shape}
-use Rattle.bits_core.specs.Bits.{is_by, doer}
 use Rattle.bits_core.specs.History.{has_event, before_last}
-use Rattle.bits_core.specs.Lawful.{IsLawful}
 use Rattle.bits_core.specs.Made.{subhistory, clock, place_of}
-use Rattle.register_core.specs.UnaryLaw.{count_begun, count_ended}
 use Rattle.ring_core.proofs.OverSpans.Clocks.{IsPlace}
 use Rattle.ring_core.proofs.Readings.Cuts.{at_most_or_above}
 use Rattle.bits_core.proofs.OwnEvents.{own-no, own-yes}
 pub use Rattle.bits_core.proofs.OwnEvents.{by_case, clock_rises, clock_within}
-use Rattle.bits_core.proofs.LawLemmas.{subhistory_has_place}
 
 -- ---- clocks and places
 

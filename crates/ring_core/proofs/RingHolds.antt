@@ -2,25 +2,17 @@
 -- derived from that of the spans.
 use Rattle.std.proofs.Common.{◌≡◌, ◌⊎◌, inl, inr, ℕ, suc, ◌+◌, ◌-◌, ◌*◌, ◌<◌, ◌≤◌, Bool, true, false, Some, List, [], ◌∷◌, ◌++◌, length, refl, sym, ap, subst, ◌∙◌, arith, append_assoc, append-nil, length-append}
 use Rattle.std.specs.Prelude.{slice_get}
-use Rattle.std.proofs.Math.Nat.{suc-mul}
-use Rattle.bits_core.specs.declared.events.Side.{Side}
-use Rattle.bits_core.specs.declared.events.Side.TheVariants.{P, C}
-use Rattle.bits_core.specs.declared.events.Bit.TheVariants.{X}
+use Rattle.ring_core.proofs.Common.{suc-mul, Side, P, C, X, Shape, batch_of, capacity_of, modulus_of, take_batch_of, width_of, Count, first_count, Takes, Open, Closed, End, take_program, events_in}
+use Rattle.ring_core.proofs.Common.{all_put, Tells, IsRun, TakenArePrefix, ClosedIsTrue, made_is_access, subhistory_has_one_place}
 use Rattle.bits_core.specs.declared.events.Event.{Event}
-use Rattle.bits_core.specs.declared.shapes.Shape.{Shape}
-use Rattle.bits_core.specs.Shape.{batch_of, capacity_of, modulus_of, take_batch_of, width_of}
 use Rattle.bits_core.specs.Intervals as intervals
 use Rattle.bits_core.specs.Made.{Made, Read, events_of, subhistory, clock, place_of, IsPlaceOf, IsPrefix}
 use Rattle.register_core.specs.ScanState.{scan_phrase, row_read_by}
-use Rattle.ring_core.specs.Counts.{Count, first_count}
 use Rattle.ring_core.specs.Puts.{Put, Puts, Stored, Full, stored_after, put_phrases, close_phrase}
-use Rattle.ring_core.specs.Takes.{Takes, Open, Closed, End, take_program}
-use Rattle.ring_core.specs.Items.{events_in, all_put, Tells}
 use Rattle.ring_core.proofs.OverSpans.Spans.{Span, Asks, counts, before_count, all_items, total}
 use Rattle.ring_core.proofs.OverSpans.Clocks.{IsPlace, AreCloseReads, Ring}
 use Rattle.ring_core.proofs.OverSpans.Clocks as clocks
 use Rattle.ring_core.proofs.OverSpans.LookSpans.{put_looks, take_looks, word_part, count_part, look_accesses, spans, put_spans, take_spans, LookAt}
-use Rattle.ring_core.specs.RingLaw.{IsRun, TakenArePrefix, ClosedIsTrue}
 use Rattle.ring_core.proofs.OverSpans.RingOfSpans.{LawOfSpans, PutsAreInRange, TakesAreInRange, CellsAreQuiet, TakesMatchPuts, EmptyIsFresh}
 use Rattle.ring_core.proofs.Readings.Cuts.{at_most_or_above}
 use Rattle.ring_core.proofs.OverSpans.SpanLaw.{SpanLaw, span_law, IsToldAt, LastTwo}
@@ -33,7 +25,6 @@ use Rattle.ring_core.proofs.Cells.CellPlaces.{doubled, multiple_up}
 use Rattle.ring_core.proofs.OverSpans.RegularScans.{put_events, take_events, puts_regular, takes_regular}
 use Rattle.ring_core.proofs.CloseReads.{read_of_close}
 use Rattle.ring_core.proofs.Cells.SafeWords.{close_to_cell, words_are_safe}
-use Rattle.bits_core.proofs.LawLemmas.{made_is_access, subhistory_has_one_place}
 
 -- ---- reads of the close bit
 

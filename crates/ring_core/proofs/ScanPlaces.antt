@@ -1,15 +1,8 @@
 -- A scan among the accesses of a program is that of a look.
 use Rattle.std.proofs.Common.{◌≡◌, inl, inr, ℕ, zero, suc, ◌+◌, ◌*◌, Bool, true, false, List, [], ◌∷◌, ◌++◌, length, refl, sym, ap, ◌∙◌, arith, length-append, append-nil}
-use Rattle.bits_core.specs.declared.events.Side.{Side}
-use Rattle.bits_core.specs.declared.events.Side.TheVariants.{P, C}
-use Rattle.bits_core.specs.declared.events.Bit.{Bit}
-use Rattle.bits_core.specs.declared.events.Bit.TheVariants.{X, Cell}
-use Rattle.bits_core.specs.declared.shapes.Shape.{Shape}
+use Rattle.ring_core.proofs.Common.{Side, P, C, Bit, X, Cell, Shape, Count, count_bits, words_phrase, close_phrase, scan_events}
 use Rattle.bits_core.specs.Made.{Made, Read}
 use Rattle.register_core.specs.Phrases.{RowWrite, row_bit, writes_in, digit_reads, zero_reads, scan_phrase, row_read_by}
-use Rattle.ring_core.specs.Counts.{Count, count_bits}
-use Rattle.ring_core.specs.Puts.{words_phrase, close_phrase}
-use Rattle.ring_core.specs.CallsAt.{scan_events}
 use Rattle.ring_core.proofs.Readings.Parts.{NoneAre, none-append, behind, never}
 use Rattle.ring_core.proofs.Readings.Phrases.{scan-front, scan_begins, same_scan}
 use Rattle.ring_core.proofs.OverSpans.Spans.{Span, Outcome, Passes, Stops, Asks, counts, IsSpanAt}

@@ -1,17 +1,9 @@
 -- The scan of a take, the first or the second.
 use Rattle.std.proofs.Common.{◌≡◌, ◌⊎◌, ⊎_elim, ℕ, ◌≤◌, Bool, false, true, Option, Some, List, [], ap, arith}
-use Rattle.bits_core.specs.declared.events.Side.TheVariants.{C}
-use Rattle.bits_core.specs.declared.events.Access.{Access}
-use Rattle.bits_core.specs.Shape.{modulus_of}
-use Rattle.bits_core.specs.Made.{Made}
+use Rattle.ring_core.proofs.Common.{C, Access, modulus_of, Made, ReaderState, ReaderStands, LastBitIsDue, EndsInZeros, IsScanning, ShowsItem, distance, Takes, ConsumerState, IsConsumer, IsTaking}
+use Rattle.ring_core.proofs.Common.{due_take, consumer_due_at, is_taking, ConsumerStands, ConsumerMoves}
 use Rattle.register_core.specs.ScanState.{ScanState, ScanStands, LastIsDue, IsScanOf, IsValueRead, row_read_by, scan_read, due_scan}
-use Rattle.register_core.specs.WordState.{ReaderState, ReaderStands}
 use Rattle.ring_core.specs.declared.consumers.Stage.TheVariants.{Scanning, Rescanning, Loading}
-use Rattle.ring_core.specs.Calls.{LastBitIsDue, EndsInZeros, IsScanning}
-use Rattle.ring_core.specs.Counts.{ShowsItem, distance}
-use Rattle.ring_core.specs.Takes.{Takes}
-use Rattle.ring_core.specs.ConsumerState.{ConsumerState, IsConsumer, IsTaking, due_take, consumer_due_at, is_taking}
-use Rattle.ring_core.specs.ConsumerCalls.{ConsumerStands, ConsumerMoves}
 use Rattle.ring_core.proofs.Machines.MachineParts.{ScanGoesOn, gives}
 use Rattle.ring_core.proofs.Machines.NextParts.{scan_reads}
 use Rattle.ring_core.proofs.Machines.ConsumerInvariant.{at_stage, scan_keeps, still_scans}

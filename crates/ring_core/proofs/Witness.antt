@@ -2,23 +2,16 @@
 -- full, the ring is closed, the item is taken, and a take returns Closed. A write overlaps the first read of the second take.
 -- One cell, modulus 3, items of one digit.
 use Rattle.std.proofs.Common.{◌≡◌, ◌≢◌, Bool, true, false, Some, None, ◌≤◌, List, [], ◌∷◌, ◌++◌, length, ap, inl, inr, refl, sym, subst, append_assoc, append-nil, arith}
-use Rattle.bits_core.specs.declared.events.Side.{Side}
-use Rattle.bits_core.specs.declared.events.Side.TheVariants.{P, C}
-use Rattle.bits_core.specs.declared.events.Bit.{Bit}
-use Rattle.bits_core.specs.declared.events.Bit.TheVariants.{S, R, X, Cell}
+use Rattle.ring_core.proofs.Common.{Side, P, C, Bit, S, R, X, Cell, Shape, IsRead, HasOverlap, IsLawful, Puts, Stored, Full, ArePuts, FollowsPuts, Takes, Empty, ItemAfterClose, Closed, AreTakes}
+use Rattle.ring_core.proofs.Common.{FollowsTakes}
 use Rattle.bits_core.specs.declared.events.Act.TheVariants.{ReadBegin, ReadEnd, WriteBegin, WriteEnd}
 use Rattle.bits_core.specs.declared.events.Access.TheVariants as access
 use Rattle.bits_core.specs.declared.events.Event.{Event}
-use Rattle.bits_core.specs.declared.shapes.Shape.{Shape}
 use Rattle.bits_core.specs.Bits.{reader, writer}
 use Rattle.bits_core.specs.History.{open_access}
-use Rattle.bits_core.specs.Intervals.{IsRead, HasOverlap}
-use Rattle.bits_core.specs.Lawful.{IsLawful}
 use Rattle.bits_core.specs.Shape.{belongs}
 use Rattle.bits_core.specs.Steps.{IsAnswer, MayFollow}
 use Rattle.ring_core.specs.Items.{items_put_in, items_taken_in, ToldIn}
-use Rattle.ring_core.specs.Puts.{Puts, Stored, Full, ArePuts, FollowsPuts}
-use Rattle.ring_core.specs.Takes.{Takes, Empty, ItemAfterClose, Closed, AreTakes, FollowsTakes}
 use Rattle.ring_core.specs.RunLaws.{FindsEmpty, FindsFull, HasARun}
 use Rattle.ring_core.proofs.Examples.{one_cell}
 use Rattle.bits_core.proofs.LawLemmas.{empty_is_lawful, lawful_by_one_more}

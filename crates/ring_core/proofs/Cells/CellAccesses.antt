@@ -1,28 +1,17 @@
 -- An access to a digit of a cell is one of a word that a call writes or reads, so accesses of the two sides do not overlap.
 use Rattle.std.proofs.Common.{◌≡◌, ◌⊎◌, inl, inr, ℕ, zero, suc, ◌+◌, ◌-◌, ◌*◌, ◌%◌, ◌<◌, ◌≤◌, Bool, true, false, Option, Some, None, List, [], ◌∷◌, ◌++◌, length, drop, if◌then◌else◌, refl, sym, ap, subst, ◌∙◌, arith, length-append}
 use Rattle.std.specs.Prelude.{slice_get}
-use Rattle.std.proofs.Math.Nat.{suc-mul}
-use Rattle.std.proofs.lemmas.Option.{slice_get_within}
-use Rattle.bits_core.specs.declared.events.Side.{Side}
-use Rattle.bits_core.specs.declared.events.Side.TheVariants.{P, C}
-use Rattle.bits_core.specs.declared.events.Bit.{Bit}
-use Rattle.bits_core.specs.declared.events.Bit.TheVariants.{S, R, X, Cell}
-use Rattle.bits_core.specs.declared.events.Access.{Access}
+use Rattle.ring_core.proofs.Common.{suc-mul, slice_get_within, Side, P, C, Bit, S, R, X, Cell, Access, Shape, capacity_of, width_of, is_by, Count, first_count, count_bits, batch_phrase, Puts, Stored}
+use Rattle.ring_core.proofs.Common.{Full, stored_in, words_phrase, put_phrase, put_phrases, close_phrase, put_program, events_in, taken_of, access_is_made, subhistory_has_place}
 use Rattle.bits_core.specs.declared.events.Access.TheVariants as begins
 use Rattle.bits_core.specs.declared.events.Event.{Event}
-use Rattle.bits_core.specs.declared.shapes.Shape.{Shape}
-use Rattle.bits_core.specs.Shape.{capacity_of, width_of}
-use Rattle.bits_core.specs.Bits.{is_by}
 use Rattle.bits_core.specs.Intervals.{IsAccess, Overlap, first_place}
 use Rattle.bits_core.specs.Made.{Made, Read, Write, access_of, subhistory, place_of, IsPlaceOf}
 use Rattle.bits_core.proofs.Statements.{IsMadeAt}
 use Rattle.register_core.specs.Row.{RowWrite, row_bit, writes_in}
 use Rattle.register_core.specs.Word.{digit, digit_reads, digit_writes, word_read, word_write}
 use Rattle.register_core.specs.ScanState.{zero_reads, scan_phrase, row_read_by}
-use Rattle.ring_core.specs.Counts.{Count, first_count, count_bits, batch_phrase}
-use Rattle.ring_core.specs.Puts.{Puts, Stored, Full, stored_in, words_phrase, put_phrase, put_phrases, close_phrase, put_program}
 use Rattle.ring_core.specs.Takes.{accesses_before_word, Takes, Item, ItemAfterClose, Empty, End, Open, Closed, taken_in, words_read, items_phrase, take_phrase, take_phrases, end_phrase, take_program}
-use Rattle.ring_core.specs.Items.{events_in, taken_of}
 use Rattle.ring_core.specs.CallsAt.{IsCallAt}
 use Rattle.ring_core.specs.RingLaw.{IsRun, IsInterval, CellsAreQuiet}
 use Rattle.ring_core.proofs.Cells.ItemPlaces.{HasItem, has_item, put_scan, ItemsAreQuiet}
@@ -32,7 +21,6 @@ use Rattle.ring_core.proofs.Readings.Cuts.{at_most_or_above}
 use Rattle.ring_core.proofs.OwnEvents.{clock_within, clock_rises}
 use Rattle.ring_core.proofs.Machines.Lengths.{length-words}
 use Rattle.register_core.proofs.Digits.{length-reads}
-use Rattle.bits_core.proofs.LawLemmas.{access_is_made, subhistory_has_place}
 
 -- ---- accesses of cells in a list of accesses
 

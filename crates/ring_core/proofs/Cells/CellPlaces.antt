@@ -1,23 +1,13 @@
 -- Which put an access to a cell belongs to, and where the accesses of a put's word are.
 use Rattle.std.proofs.Common.{◌≡◌, inl, inr, ℕ, zero, suc, ◌+◌, ◌*◌, ◌%◌, ◌<◌, ◌≤◌, Bool, true, cond, nat_eq, Some, List, [], ◌∷◌, ◌++◌, length, refl, sym, ap, subst, ◌∙◌, arith, append_assoc, length-append}
 use Rattle.std.specs.Prelude.{slice_get}
-use Rattle.std.proofs.lemmas.List.{map-append}
-use Rattle.std.proofs.Math.Nat.{add-mul, suc-mul}
-use Rattle.std.proofs.lemmas.Bool.{eq-eqb}
-use Rattle.bits_core.specs.declared.events.Side.{Side}
-use Rattle.bits_core.specs.declared.events.Side.TheVariants.{P, C}
-use Rattle.bits_core.specs.declared.events.Bit.TheVariants.{Cell}
+use Rattle.ring_core.proofs.Common.{map-append, add-mul, suc-mul, eq-eqb, Side, P, C, Cell, Shape, capacity_of, width_of, Made, Write, access_of, Count, words_phrase}
 use Rattle.bits_core.specs.declared.events.Access.TheVariants as begins
-use Rattle.bits_core.specs.declared.shapes.Shape.{Shape}
-use Rattle.bits_core.specs.Shape.{capacity_of, width_of}
-use Rattle.bits_core.specs.Made.{Made, Write, access_of}
 use Rattle.bits_core.proofs.Places.{slice_get-append, slice_get-behind}
 use Rattle.register_core.specs.Row.{writes_in}
 use Rattle.register_core.specs.Word.{digit, digit_writes, word_write, word_writes, word_read}
 use Rattle.register_core.specs.ScanState.{scan_phrase, row_read_by}
 use Rattle.register_core.proofs.WordMachines.{writer-feeds as digits-snoc}
-use Rattle.ring_core.specs.Counts.{Count}
-use Rattle.ring_core.specs.Puts.{words_phrase}
 use Rattle.ring_core.proofs.OverSpans.Spans.{Outcome, Span, counts, items_of, whole, IsSpanAt}
 use Rattle.ring_core.proofs.OverSpans.LookSpans.{Look, words_read, word_part, count_part, after_look, look_accesses, span_of, spans}
 use Rattle.ring_core.proofs.Readings.Phrases.{length-digit_writes, digits_split}

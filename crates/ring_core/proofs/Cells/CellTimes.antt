@@ -1,22 +1,14 @@
 -- Where the writes to the digits of a cell are among the accesses of the producer.
 use Rattle.std.proofs.Common.{◌≡◌, ◌⊎◌, inl, inr, ℕ, zero, suc, ◌+◌, ◌%◌, ◌^◌, ◌<◌, Bool, true, false, cond, nat_eq, Some, None, List, [], ◌∷◌, ◌++◌, length, refl, sym, ap, ◌∙◌, arith, append_assoc, append-nil, length-append}
-use Rattle.std.specs.Prelude.{All}
-use Rattle.std.proofs.lemmas.Bool.Decides.{nat_tests}
-use Rattle.std.proofs.lemmas.List.Elements.{filter_map-append, All-nil, All-append}
-use Rattle.bits_core.specs.declared.events.Side.TheVariants.{P}
-use Rattle.bits_core.specs.declared.events.Bit.TheVariants.{S, R, X, Cell}
+use Rattle.ring_core.proofs.Common.{All, nat_tests, filter_map-append, All-nil, All-append, P, S, R, X, Cell, Shape, AllFit, capacity_of, width_of, Count, words_phrase}
 use Rattle.bits_core.specs.declared.events.Act.TheVariants.{ReadBegin}
 use Rattle.bits_core.specs.declared.events.Access.TheVariants as begins
-use Rattle.bits_core.specs.declared.shapes.Shape.{Shape}
-use Rattle.bits_core.specs.Shape.{AllFit, capacity_of, width_of}
 use Rattle.bits_core.specs.Made.{Made, Read, Write, access_of, begin_event}
 use Rattle.register_core.specs.Row.{RowWrite, row_bit, row_write, writes_in}
 use Rattle.register_core.specs.Word.{word_write, word_writes}
 use Rattle.register_core.specs.WordLaw.{cell_write}
 use Rattle.register_core.specs.ScanState.{scan_phrase, zero_reads, row_read_by}
 use Rattle.register_core.specs.MadeWrites.{made_writes}
-use Rattle.ring_core.specs.Counts.{Count}
-use Rattle.ring_core.specs.Puts.{words_phrase}
 use Rattle.ring_core.proofs.OverSpans.Spans.{Outcome, Passes, Stops, Asks, Span, counts, items_of, whole, IsSpanAt}
 use Rattle.ring_core.proofs.OverSpans.LookSpans.{Look, word_part, count_part, look_number, after_look, look_accesses, span_of, spans}
 pub use Rattle.register_core.proofs.Items.{length-word_writes}

@@ -3,18 +3,10 @@ use Rattle.std.proofs.Common.{◌≡◌, ℕ, zero, suc, ◌*◌, ◌<◌, Bool,
 use Rattle.std.specs.Prelude.{slice_get}
 use Rattle.std.specs.List.{cons_option}
 use Rattle.std.proofs.lemmas.List.{take-append-drop}
-use Rattle.std.proofs.lemmas.List.Elements.{filter-append}
-use Rattle.bits_core.specs.declared.events.Side.{Side}
-use Rattle.bits_core.specs.declared.events.Side.TheVariants.{P}
-use Rattle.bits_core.specs.declared.events.Bit.{Bit}
-use Rattle.bits_core.specs.declared.events.Bit.TheVariants.{Cell}
+use Rattle.ring_core.proofs.Common.{filter-append, Side, P, Bit, Cell, Shape, same_side, doer, is_by, IsWrite, IsLawful}
 use Rattle.bits_core.specs.declared.events.Act.{Act}
 use Rattle.bits_core.specs.declared.events.Event.{Event}
-use Rattle.bits_core.specs.declared.shapes.Shape.{Shape}
 use Rattle.bits_core.specs.Shape.{IsByRightSide}
-use Rattle.bits_core.specs.Bits.{same_side, doer, is_by}
-use Rattle.bits_core.specs.Intervals.{IsWrite}
-use Rattle.bits_core.specs.Lawful.{IsLawful}
 use Rattle.bits_core.specs.Made.{Made, Read, Write, end_event, events_of, subhistory, clock, IsPrefix}
 use Rattle.register_core.specs.Row.{RowWrite, row_write}
 use Rattle.register_core.specs.WordLaw.{number_in_cell, cell_write, cell_writes}

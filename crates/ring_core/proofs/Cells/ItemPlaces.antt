@@ -1,18 +1,11 @@
 -- Where an item is stored and where it is taken, by the call that does it.
 use Rattle.std.proofs.Common.{arith}
 use Rattle.std.specs.Prelude.{◌≡◌, ℕ, ◌+◌, ◌-◌, ◌*◌, ◌%◌, Some, List, slice_get}
-use Rattle.bits_core.specs.declared.events.Side.TheVariants.{P, C}
+use Rattle.ring_core.proofs.Common.{P, C, Shape, capacity_of, width_of, Made, Takes, accesses_before_word, events_in, taken_of, IsPutAt, IsTakeAt, IsInterval}
 use Rattle.bits_core.specs.declared.events.Event.{Event}
-use Rattle.bits_core.specs.declared.shapes.Shape.{Shape}
-use Rattle.bits_core.specs.Shape.{capacity_of, width_of}
 use Rattle.bits_core.specs.Intervals as intervals
-use Rattle.bits_core.specs.Made.{Made}
 use Rattle.register_core.specs.Phrases.{scan_phrase, row_read_by}
 use Rattle.ring_core.specs.Puts.{Put, Puts}
-use Rattle.ring_core.specs.Takes.{Takes, accesses_before_word}
-use Rattle.ring_core.specs.Items.{events_in, taken_of}
-use Rattle.ring_core.specs.CallsAt.{IsPutAt, IsTakeAt}
-use Rattle.ring_core.specs.RingLaw.{IsInterval}
 use Rattle.ring_core.proofs.OverSpans.CallSpans.{put_seen, put_items}
 
 -- Item number j is one of those of a call whose own events end before stop: the digits of the item's word are accessed from the side's

@@ -2,23 +2,14 @@
 use Rattle.std.proofs.Common.{◌≡◌, ◌⊎◌, inl, inr, ℕ, zero, suc, ◌+◌, ◌-◌, ◌*◌, ◌%◌, ◌^◌, ◌<◌, ◌≤◌, Bool, Some, List, [], ◌∷◌, ◌++◌, length, take, refl, sym, ap, subst, ◌∙◌, arith}
 use Rattle.std.specs.Prelude.{slice_get}
 use Rattle.std.proofs.lemmas.Nat.{div-mul-add}
-use Rattle.std.proofs.lemmas.Option.{slice_get_within}
-use Rattle.std.proofs.Math.Nat.{add-mul, suc-mul}
-use Rattle.bits_core.specs.declared.events.Side.TheVariants.{P, C}
-use Rattle.bits_core.specs.declared.events.Bit.TheVariants.{Cell}
+use Rattle.ring_core.proofs.Common.{slice_get_within, add-mul, suc-mul, P, C, Cell, Shape, capacity_of, width_of, end_of, IsLawful, first_count, close_phrase, access_is_made, made_is_access}
 use Rattle.bits_core.specs.declared.events.Access.TheVariants as begins
 use Rattle.bits_core.specs.declared.events.Event.{Event}
-use Rattle.bits_core.specs.declared.shapes.Shape.{Shape}
-use Rattle.bits_core.specs.Shape.{capacity_of, width_of}
 use Rattle.bits_core.specs.Intervals as intervals
-use Rattle.bits_core.specs.Intervals.{end_of}
-use Rattle.bits_core.specs.Lawful.{IsLawful}
 use Rattle.bits_core.specs.Made.{Made, Write, events_of, subhistory, clock, place_of, IsPrefix}
 use Rattle.register_core.specs.Word.{digit}
 use Rattle.register_core.specs.WordLaw.{cell_writes, IsDigitWrite, IsWordWrite, IsWordRead, IsLastWord, NoWordEnded, WritesWords}
 use Rattle.register_core.specs.MadeReads.{begin_place, end_place}
-use Rattle.ring_core.specs.Counts.{first_count}
-use Rattle.ring_core.specs.Puts.{close_phrase}
 use Rattle.ring_core.proofs.OverSpans.Spans.{Span, counts, items_of, before_count, IsSpanAt}
 use Rattle.ring_core.proofs.OverSpans.Clocks.{IsPlace, CellOverlap, IsLastWrite, word_end, AreSafe}
 use Rattle.ring_core.proofs.OverSpans.LookSpans.{Look, look_accesses, spans}
@@ -31,7 +22,6 @@ use Rattle.ring_core.proofs.Cells.CellPlaces.{doubled, words_order, multiple_up,
 use Rattle.ring_core.proofs.Machines.Batches.{fits_at}
 use Rattle.ring_core.proofs.Cells.CellWrites.{writes_before, write_is_counted, write_is_counted_at_end}
 use Rattle.ring_core.proofs.OverSpans.SpanItems.{within_items as counted_within}
-use Rattle.bits_core.proofs.LawLemmas.{access_is_made, made_is_access}
 use Rattle.register_core.proofs.LawLemmas.{reads_are_made_words, word_is_safe, writes_are_made_cells}
 
 -- a close writes to no cell

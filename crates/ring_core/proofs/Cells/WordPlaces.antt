@@ -1,17 +1,9 @@
 -- A word among the accesses of a program is that of an item of a look.
 use Rattle.std.proofs.Common.{◌≡◌, ◌⊎◌, inl, inr, ℕ, zero, suc, ◌+◌, ◌*◌, ◌%◌, ◌<◌, Bool, true, false, Some, List, [], ◌∷◌, ◌++◌, length, refl, sym, ap, ◌∙◌, arith, length-append, append-nil, append_assoc}
 use Rattle.std.specs.Prelude.{slice_get}
-use Rattle.std.proofs.Math.Nat.{suc-mul}
-use Rattle.bits_core.specs.declared.events.Side.{Side}
-use Rattle.bits_core.specs.declared.events.Side.TheVariants.{P, C}
-use Rattle.bits_core.specs.declared.events.Bit.{Bit}
-use Rattle.bits_core.specs.declared.events.Bit.TheVariants.{X, Cell}
-use Rattle.bits_core.specs.declared.shapes.Shape.{Shape}
-use Rattle.bits_core.specs.Shape.{capacity_of, width_of}
+use Rattle.ring_core.proofs.Common.{suc-mul, Side, P, C, Bit, X, Cell, Shape, capacity_of, width_of, Count, count_bits, words_phrase, close_phrase}
 use Rattle.bits_core.specs.Made.{Made, Read, Write}
 use Rattle.register_core.specs.Phrases.{RowWrite, row_bit, writes_in, digit, word_read, word_write, zero_reads, scan_phrase, row_read_by}
-use Rattle.ring_core.specs.Counts.{Count, count_bits}
-use Rattle.ring_core.specs.Puts.{words_phrase, close_phrase}
 use Rattle.ring_core.proofs.Readings.Parts.{NoneAre, none-append, behind, never}
 use Rattle.ring_core.proofs.OverSpans.Spans.{Span, Outcome, Passes, Stops, Asks, counts, whole, IsSpanAt}
 use Rattle.ring_core.proofs.OverSpans.LookSpans.{Look, words_read, word_part, count_part, after_look, look_accesses, span_of, spans}

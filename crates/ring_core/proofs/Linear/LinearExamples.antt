@@ -1,9 +1,7 @@
 -- The operations of small runs.
 use Rattle.std.proofs.Common.{◌≡◌, ℕ, List, [], ◌∷◌, ◌++◌, refl}
-use Rattle.bits_core.specs.declared.events.Side.TheVariants.{P, C}
-use Rattle.ring_core.specs.Counts.{first_count}
+use Rattle.ring_core.proofs.Common.{P, C, first_count, TimedOperation, operations, put_operations, take_operations}
 use Rattle.queue_calls.specs.Queue.{Enqueue, Close, Dequeue, FindClosed}
-use Rattle.ring_core.specs.Linear.{TimedOperation, operations, put_operations, take_operations}
 use Rattle.ring_core.proofs.Examples.{one_cell, put_and_close, second_scan, three_cells, three_at_once}
 
 -- the operations before these moments: none, the first ones, the same, and then the second ones after them

@@ -1,18 +1,10 @@
 -- Every run of the ring is linearizable.
 use Rattle.std.proofs.Common.{◌≡◌, inl, inr, ℕ, ◌+◌, ◌<◌, ◌≤◌, true, false, List, [], ◌∷◌, ◌++◌, length, refl, sym, ap, subst, ◌∙◌, arith, length-append}
-use Rattle.queue_calls.specs.Queue.{queue}
-use Rattle.bits_core.specs.declared.events.Side.TheVariants.{P, C}
+use Rattle.ring_core.proofs.Common.{queue, P, C, Shape, capacity_of, subhistory, clock, Count, first_count, Puts, put_phrases, Take, Takes, taken_in, take_phrases, end_phrase, take_program, events_in}
+use Rattle.ring_core.proofs.Common.{items_put, items_taken, Tells, IsRun}
 use Rattle.bits_core.specs.declared.events.Event.{Event}
-use Rattle.bits_core.specs.declared.shapes.Shape.{Shape}
-use Rattle.bits_core.specs.Shape.{capacity_of}
-use Rattle.bits_core.specs.Made.{subhistory, clock}
-use Rattle.ring_core.specs.Counts.{Count, first_count}
-use Rattle.ring_core.specs.Puts.{Puts, put_phrases}
-use Rattle.ring_core.specs.Takes.{Take, Takes, taken_in, take_phrases, end_phrase, take_program}
-use Rattle.ring_core.specs.Items.{events_in, items_put, items_taken, Tells}
 use Rattle.ring_core.proofs.Readings.Over.{all_are, taken_all}
 use Rattle.ring_core.proofs.EndedCounts.{taken_begun}
-use Rattle.ring_core.specs.RingLaw.{IsRun}
 use Rattle.ring_core.specs.Linear.{TimedOperation, EndsBefore, KeepsTime, IsLinearizableRun}
 use Rattle.ring_core.proofs.OverSpans.Spans.{counts_begun, counts_ended}
 use Rattle.ring_core.proofs.OverSpans.LookSpans.{put_spans, take_spans}

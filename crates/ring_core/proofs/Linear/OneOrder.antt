@@ -1,10 +1,8 @@
 -- The operations of two sides have an order that is that of a queue and respects the time of the calls: each operation of the
 -- consumer comes after those of the producer that must precede it, or precede an earlier one of the consumer, and after no others.
 use Rattle.std.proofs.Common.{◌≡◌, ◌⊎◌, inl, inr, ℕ, suc, ◌+◌, ◌<◌, ◌≤◌, Bool, true, false, List, [], ◌∷◌, ◌++◌, length, refl, sym, ap, subst, ◌∙◌, arith, length-append, append_assoc}
-use Rattle.std.specs.Prelude.{map}
-use Rattle.bits_core.specs.declared.events.Side.TheVariants.{P, C}
+use Rattle.ring_core.proofs.Common.{map, P, C, clock}
 use Rattle.bits_core.specs.declared.events.Event.{Event}
-use Rattle.bits_core.specs.Made.{clock}
 use Rattle.std.proofs.lemmas.Bool.{false≢true}
 use Rattle.queue_calls.specs.Queue.{Queue, queue, exactly, Step, IsLegal}
 use Rattle.ring_core.specs.Linear.{TimedOperation, done_by, of_side, EndsBefore}

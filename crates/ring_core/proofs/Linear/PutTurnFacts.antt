@@ -1,17 +1,11 @@
 -- The properties of the operations of the producer's calls in a run.
 use Rattle.std.proofs.Common.{◌≡◌, inl, inr, ℕ, suc, ◌+◌, ◌-◌, ◌<◌, ◌≤◌, Bool, true, false, nat_lt, nat_le, if◌then◌else◌, List, [], ◌∷◌, ◌++◌, length, refl, sym, ap, subst, arith, length-append}
 use Rattle.std.proofs.lemmas.Bool.{ltb-true, ltb-false, leb-true, lt-ltb}
-use Rattle.bits_core.specs.declared.events.Side.{Side}
-use Rattle.bits_core.specs.declared.events.Side.TheVariants.{P, C}
+use Rattle.ring_core.proofs.Common.{Side, P, C, Shape, batch_of, capacity_of, take_batch_of, Count, first_count, batch_phrase, Takes, events_in, items_put, subhistory_has_place, nat_tests}
 use Rattle.bits_core.specs.declared.events.Event.{Event}
-use Rattle.bits_core.specs.declared.shapes.Shape.{Shape}
-use Rattle.bits_core.specs.Shape.{batch_of, capacity_of, take_batch_of}
 use Rattle.bits_core.specs.Made.{subhistory, clock, place_of, IsPlaceOf}
 use Rattle.register_core.specs.ScanState.{scan_phrase, row_read_by}
-use Rattle.ring_core.specs.Counts.{Count, first_count, batch_phrase}
 use Rattle.ring_core.specs.Puts.{Put, Stored, Full, Puts, stored_after, words_phrase, put_phrase, put_phrases}
-use Rattle.ring_core.specs.Takes.{Takes}
-use Rattle.ring_core.specs.Items.{events_in, items_put}
 use Rattle.ring_core.proofs.OverSpans.Spans.{Span, Passes, Stops, counts, before_count, whole, counts_begun, counts_ended, IsSpanAt}
 use Rattle.ring_core.proofs.OverSpans.LookSpans.{look, put_looks, span_of, spans, put_spans, take_spans}
 use Rattle.ring_core.proofs.OverSpans.RingOfSpans.{LawOfSpans}
@@ -24,8 +18,6 @@ use Rattle.ring_core.proofs.OwnEvents.{clock_rises}
 use Rattle.ring_core.proofs.Linear.Turns.{In, Misses, IsMove, Op, PutFact, move_not_miss, move_not_end}
 use Rattle.ring_core.proofs.Linear.OneOrder.{Numbered, items_by, IsClosedBy}
 use Rattle.ring_core.proofs.Linear.PutTurns.{if_yes, if_no, in_if, in_call, in_one, begun_past_count, begun_before_count, begun_of_none, begun_counts, put_turn, enqueue_turns, put_long, until_count, put_turns, put_turns-none, put_some, before_put_ends, move_of, move_so, moves_numbered}
-use Rattle.bits_core.proofs.LawLemmas.{subhistory_has_place}
-use Rattle.std.proofs.lemmas.Bool.Decides.{nat_tests}
 
 -- the place of the side's own event i is the last one with a clock of at most i
 pub last_place : (s : Side) (h : List Event) (i place t : ℕ) → IsPlaceOf s h i place → clock s h t ≤ i → t ≤ place

@@ -1,18 +1,9 @@
 -- The operations of the producer's calls, with their numbers: their order, and what holds for each.
 use Rattle.std.proofs.Common.{◌≡◌, ◌⊎◌, inl, inr, ℕ, suc, ◌+◌, ◌-◌, ◌<◌, ◌≤◌, Bool, true, false, nat_lt, nat_le, if◌then◌else◌, Some, List, [], ◌∷◌, ◌++◌, length, refl, ap, ap₂, arith, length-append, ◌∙◌}
 use Rattle.std.specs.Prelude.{slice_get, map}
-use Rattle.std.proofs.lemmas.List.{map-append}
-use Rattle.std.proofs.lemmas.Option.{slice_get_within}
-use Rattle.std.proofs.lemmas.Bool.Decides.{nat_tests}
-use Rattle.std.proofs.lemmas.Bool.{lt-ltb, le-ltb, lt-leb}
-use Rattle.bits_core.specs.declared.events.Side.TheVariants.{P}
-use Rattle.bits_core.specs.declared.shapes.Shape.{Shape}
+use Rattle.ring_core.proofs.Common.{map-append, slice_get_within, nat_tests, lt-ltb, le-ltb, lt-leb, P, Shape, number_past, Count, events_in, Enqueue, TimedOperation, operations, put_operations}
 use Rattle.register_core.specs.ScanState.{row_read_by}
-use Rattle.ring_core.specs.Counts.{number_past, Count}
 use Rattle.ring_core.specs.Puts.{Put, Stored, Full, stored_after, accesses_before_count, put_phrase}
-use Rattle.ring_core.specs.Items.{events_in}
-use Rattle.queue_calls.specs.Queue.{Enqueue}
-use Rattle.ring_core.specs.Linear.{TimedOperation, operations, put_operations}
 use Rattle.ring_core.proofs.OverSpans.Spans.{Span, counts, before_count, whole, counts_begun, IsSpanAt}
 use Rattle.ring_core.proofs.CountRow.{past_is}
 use Rattle.ring_core.proofs.Machines.Lengths.{length-scan}

@@ -1,21 +1,13 @@
 -- The properties of the operations of the consumer's calls in a run.
 use Rattle.std.proofs.Common.{◌≡◌, inl, inr, ℕ, suc, ◌+◌, ◌*◌, ◌<◌, ◌≤◌, Bool, true, false, nat_le, Some, List, [], ◌∷◌, ◌++◌, length, refl, sym, ap, subst, ◌∙◌, arith, length-append}
 use Rattle.std.specs.Prelude.{slice_get}
-use Rattle.bits_core.specs.declared.events.Side.TheVariants.{P, C}
+use Rattle.ring_core.proofs.Common.{P, C, Shape, take_batch_of, width_of, slice_get_within, leb-true, Count, first_count, Puts, put_phrases, Take, Item, ItemAfterClose, Empty, End, Open, Closed}
+use Rattle.ring_core.proofs.Common.{Takes, count_after, taken_in, take_phrases, end_phrase, events_in, items_put, Tells, take_effect, subhistory_has_place}
 use Rattle.bits_core.specs.declared.events.Event.{Event}
-use Rattle.bits_core.specs.declared.shapes.Shape.{Shape}
-use Rattle.bits_core.specs.Shape.{take_batch_of, width_of}
-use Rattle.std.proofs.lemmas.Option.{slice_get_within}
-use Rattle.std.proofs.lemmas.Bool.{leb-true}
 use Rattle.ring_core.proofs.OverSpans.Looks.{words_are}
 use Rattle.ring_core.proofs.Cells.CellPlaces.{multiple_up}
 use Rattle.ring_core.proofs.CountRow.{past_is}
 use Rattle.bits_core.specs.Made.{subhistory, clock, place_of, IsPlaceOf}
-use Rattle.ring_core.specs.Counts.{Count, first_count}
-use Rattle.ring_core.specs.Puts.{Puts, put_phrases}
-use Rattle.ring_core.specs.Takes.{Take, Item, ItemAfterClose, Empty, End, Open, Closed, Takes, count_after, taken_in, take_phrases, end_phrase}
-use Rattle.ring_core.specs.Items.{events_in, items_put, Tells}
-use Rattle.ring_core.specs.Linear.{take_effect}
 use Rattle.ring_core.proofs.OverSpans.Spans.{Span, Passes, Stops, Asks, counts, items_of, before_count, whole, counts_begun, counts_ended, IsSpanAt}
 use Rattle.ring_core.proofs.OverSpans.LookSpans.{look, take_looks, span_of, spans, put_spans, take_spans}
 use Rattle.ring_core.proofs.OverSpans.RingOfSpans.{LawOfSpans}
@@ -27,7 +19,6 @@ use Rattle.ring_core.proofs.Linear.Turns.{In, Misses, Ends, IsEnd, Op, TakeFact}
 use Rattle.ring_core.proofs.Linear.PutTurns.{in_if, in_call, in_one, move_of}
 use Rattle.ring_core.proofs.Linear.PutTurnFacts.{last_place, Stand, stand_on, stand_first, begun_there}
 use Rattle.ring_core.proofs.Linear.TakeTurns.{take_turn, dequeue_turns, take_long, end_long, take_turns, item_until, after_until, end_some, ItemIs}
-use Rattle.bits_core.proofs.LawLemmas.{subhistory_has_place}
 
 module _ (shape : Shape) (h : List Event) (puts : Puts) (takes : Takes) (law : LawOfSpans shape h puts takes)
     (proper_takes : AllProper (take_batch_of shape) (take_spans shape takes)) where

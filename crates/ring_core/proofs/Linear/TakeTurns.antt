@@ -1,22 +1,14 @@
 -- The operations of the consumer's calls, with their numbers: their order, and what holds for each in a run.
 use Rattle.std.proofs.Common.{◌≡◌, inl, inr, ℕ, suc, ◌+◌, ◌-◌, ◌<◌, ◌≤◌, Bool, true, nat_lt, nat_le, if◌then◌else◌, Some, List, [], ◌∷◌, ◌++◌, length, drop, refl, ap, ap₂, subst, ◌∙◌, arith, length-append, drop-cons}
 use Rattle.std.specs.Prelude.{slice_get, map}
-use Rattle.std.proofs.lemmas.List.{map-append}
-use Rattle.std.proofs.lemmas.Option.{slice_get_within, get_or_from_slice_get}
+use Rattle.ring_core.proofs.Common.{map-append, slice_get_within, get_or_from_slice_get, C, X, Shape, Take, Item, ItemAfterClose, Empty, End, Open, Closed, taken_after, count_after, take_phrase}
+use Rattle.ring_core.proofs.Common.{end_phrase, Count, number_past, Dequeue, events_in, TimedOperation, operations, take_effect, take_operations}
 use Rattle.std.proofs.lemmas.Bool.{lt-ltb, le-ltb, leb-true, leb-false, lt-leb}
-use Rattle.bits_core.specs.declared.events.Side.TheVariants.{C}
-use Rattle.bits_core.specs.declared.events.Bit.TheVariants.{X}
 use Rattle.bits_core.specs.declared.events.Event.{Event}
-use Rattle.bits_core.specs.declared.shapes.Shape.{Shape}
 use Rattle.bits_core.specs.Made.{Read, place_of}
 use Rattle.register_core.specs.ScanState.{scan_phrase, row_read_by}
-use Rattle.ring_core.specs.Takes.{Take, Item, ItemAfterClose, Empty, End, Open, Closed, taken_after, count_after, take_phrase, end_phrase}
-use Rattle.ring_core.specs.Counts.{Count, number_past}
-use Rattle.queue_calls.specs.Queue.{Dequeue}
 use Rattle.ring_core.proofs.CountRow.{past_is}
-use Rattle.ring_core.specs.Items.{events_in}
 use Rattle.ring_core.proofs.EndedCounts.{take_before_count, taken_begun}
-use Rattle.ring_core.specs.Linear.{TimedOperation, operations, take_effect, take_operations}
 use Rattle.ring_core.proofs.OverSpans.Spans.{Passes, Asks, before_count, whole}
 use Rattle.ring_core.proofs.OverSpans.LookSpans.{look, span_of}
 use Rattle.ring_core.proofs.OverSpans.CallSpans.{take_phrase-item, take_phrase-after}

@@ -1,11 +1,8 @@
 -- The operations of the two sides with their numbers, and which of one side must precede which of the other.
 use Rattle.std.proofs.Common.{◌≡◌, ◌⊎◌, inl, inr, ℕ, ◌+◌, ◌<◌, ◌≤◌, List, [], ◌∷◌, arith}
-use Rattle.bits_core.specs.declared.events.Side.{Side}
-use Rattle.bits_core.specs.declared.events.Side.TheVariants.{P, C}
+use Rattle.ring_core.proofs.Common.{Side, P, C, clock, TimedOperation}
 use Rattle.bits_core.specs.declared.events.Event.{Event}
-use Rattle.bits_core.specs.Made.{clock}
 use Rattle.queue_calls.specs.Queue.{Operation, Enqueue, FindFull, Close, Dequeue, FindEmpty, FindClosed}
-use Rattle.ring_core.specs.Linear.{TimedOperation}
 use Rattle.ring_core.proofs.Readings.Cuts.{at_most_or_above}
 
 -- x is in the list

@@ -1,13 +1,8 @@
 -- Some of the items that a put is offered, and their words.
 use Rattle.std.proofs.Common.{◌≡◌, ℕ, zero, suc, ◌+◌, ◌%◌, ◌<◌, ◌≤◌, Some, List, [], ◌∷◌, ◌++◌, length, take, refl, sym, ap, ◌∙◌, arith, append_assoc, append-nil}
 use Rattle.std.specs.Prelude.{slice_get, slice_index_or}
-use Rattle.std.proofs.Math.Nat.{mod-add-mod}
-use Rattle.bits_core.specs.declared.shapes.Shape.{Shape}
-use Rattle.bits_core.specs.Shape.{AllFit, capacity_of, width_of}
-use Rattle.bits_core.specs.Made.{Made}
+use Rattle.ring_core.proofs.Common.{mod-add-mod, Shape, AllFit, capacity_of, width_of, Made, number_past, words_phrase, IsBatch}
 use Rattle.register_core.specs.Word.{word_write}
-use Rattle.ring_core.specs.Counts.{number_past}
-use Rattle.ring_core.specs.Puts.{words_phrase, IsBatch}
 use Rattle.ring_core.proofs.CountRow.{past_is}
 
 -- ---- the first of some items

@@ -1,16 +1,10 @@
 -- What holds at each stage of the consumer's machine holds after an access.
 use Rattle.std.proofs.Common.{◌≡◌, ◌≢◌, ℕ, ◌+◌, ◌%◌, Bool, true, false, Option, Some, None, List, [], length, refl, ap, subst, ◌∙◌, arith}
-use Rattle.bits_core.specs.declared.events.Side.TheVariants.{C}
+use Rattle.ring_core.proofs.Common.{C, R, capacity_of, modulus_of, width_of, Made, ScanState, scan_read, due_scan, UnaryState, due_unary, LastBitIsDue, IsScanning, IsCounted}
 use Rattle.bits_core.specs.declared.events.Access.TheVariants as begins
-use Rattle.bits_core.specs.declared.events.Bit.TheVariants.{R}
-use Rattle.bits_core.specs.Shape.{capacity_of, modulus_of, width_of}
-use Rattle.bits_core.specs.Made.{Made}
-use Rattle.register_core.specs.ScanState.{ScanState, scan_read, due_scan}
 use Rattle.register_core.specs.WordState.{ReaderState, ReaderStands, IsReadOf, IsItemRead, read_digit}
-use Rattle.register_core.specs.UnaryState.{UnaryState, due_unary}
 use Rattle.ring_core.specs.declared.consumers.Stage.{Stage}
 use Rattle.ring_core.specs.declared.consumers.Stage.TheVariants.{Scanning, Loading, Counting}
-use Rattle.ring_core.specs.Calls.{LastBitIsDue, IsScanning, IsCounted}
 use Rattle.ring_core.specs.ConsumerState.{ConsumerState, IsConsumer, ConsumerIsAt, IsBetweenWords, IsTaking, IsLoading, due_take, consumer_due_at}
 use Rattle.ring_core.proofs.CountRow.{take_batch_below}
 use Rattle.ring_core.proofs.Machines.MachineParts.{scanning, counting_on}

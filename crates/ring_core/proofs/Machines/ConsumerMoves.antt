@@ -1,25 +1,16 @@
 -- The consumer's machine, access by access.
 use Rattle.std.proofs.Common.{◌≡◌, ◌⊎◌, inl, inr, ℕ, ◌+◌, ◌^◌, ◌%◌, ◌<◌, ◌≤◌, Bool, true, false, Option, Some, None, List, [], ◌∷◌, ◌++◌, length, refl, sym, ap, subst, ◌∙◌, arith, append_assoc, append-nil}
-use Rattle.std.proofs.lemmas.List.{append_cancel_left}
-use Rattle.bits_core.specs.declared.events.Side.TheVariants.{C}
-use Rattle.bits_core.specs.declared.events.Bit.TheVariants.{X}
-use Rattle.bits_core.specs.declared.events.Access.{Access}
-use Rattle.bits_core.specs.declared.shapes.Shape.{Shape}
-use Rattle.bits_core.specs.Shape.{AllFit, capacity_of, modulus_of, take_batch_of, width_of}
+use Rattle.ring_core.proofs.Common.{append_cancel_left, C, X, Access, Shape, AllFit, capacity_of, modulus_of, take_batch_of, width_of, ReaderState, ReaderStands, IsReadOf, due_read, count_writes}
+use Rattle.ring_core.proofs.Common.{UnaryState, UnaryStands, ShowsItem, distance, number_past, Count, first_count, batch_phrase, ConsumerState, IsBetweenWords, due_take, consumer_due_at, is_taking}
+use Rattle.ring_core.proofs.Common.{takes_at, taken_of}
 use Rattle.bits_core.specs.Made.{Made, Read, answered}
 use Rattle.register_core.specs.Word.{word_read}
-use Rattle.register_core.specs.WordState.{ReaderState, ReaderStands, IsReadOf, due_read}
 use Rattle.register_core.specs.ScanState.{ScanState, ScanStands, scan_phrase, row_read_by, IsScanOf}
-use Rattle.register_core.specs.Unary.{count_writes}
-use Rattle.register_core.specs.UnaryState.{UnaryState, UnaryStands}
 use Rattle.ring_core.specs.declared.replies.TakeReply.{TakeReply}
 use Rattle.ring_core.specs.declared.replies.TakeReply.TheVariants as replies
 use Rattle.ring_core.specs.declared.consumers.Stage.{Stage}
 use Rattle.ring_core.specs.declared.consumers.Stage.TheVariants.{Idle, Scanning, Checking, Rescanning, Loading, Counting}
-use Rattle.ring_core.specs.Counts.{ShowsItem, distance, number_past, Count, first_count, batch_phrase}
 use Rattle.ring_core.specs.Takes.{Take, Takes, Empty, Open, count_after, words_read, take_phrase, take_phrases, SeesNone, IsTake, AreTakes}
-use Rattle.ring_core.specs.ConsumerState.{ConsumerState, IsBetweenWords, due_take, consumer_due_at, is_taking, takes_at}
-use Rattle.ring_core.specs.Items.{taken_of}
 use Rattle.ring_core.specs.ConsumerCalls.{ConsumerStands, ConsumerMadeAt, Finding, Finds, Once, Twice, finding_phrase, made_of_take, count_taken, values_taken, ConsumerHasMoved, ConsumerMoves, items_reply, take_reply_to, and_take, and_end, HasTakeMore, IsTakeOf, IsOpenForTake, ends_closed, IsAfterTake}
 use Rattle.ring_core.proofs.Machines.MachineParts.{GoesOn, ScanGoesOn, RowGoesOn, row_more, longer}
 use Rattle.ring_core.proofs.CountRow.{values_writes-push}

@@ -1,27 +1,17 @@
 -- The access that the consumer's machine has due is the next one of its take.
 use Rattle.std.proofs.Common.{◌≡◌, ◌⊎◌, inl, inr, ℕ, suc, ◌+◌, ◌-◌, ◌%◌, ◌<◌, ◌≤◌, Bool, true, false, IfSome, Option, Some, None, List, [], ◌∷◌, ◌++◌, length, refl, sym, ap, subst, ◌∙◌, arith, append_assoc, append-nil, length-append}
-use Rattle.std.proofs.Math.Nat.{mod-lt, mul-le-mul_right, suc-mul}
-use Rattle.std.proofs.lemmas.Bool.Decides.{nat_tests}
-use Rattle.bits_core.specs.declared.events.Side.TheVariants.{C}
-use Rattle.bits_core.specs.declared.events.Bit.TheVariants.{X, Cell}
-use Rattle.bits_core.specs.declared.events.Access.{Access}
+use Rattle.ring_core.proofs.Common.{mod-lt, mul-le-mul_right, suc-mul, nat_tests, C, X, Cell, Access, Shape, capacity_of, modulus_of, take_batch_of, width_of, IsNext, count_writes, UnaryStands}
+use Rattle.ring_core.proofs.Common.{due_unary, ShowsItem, distance, number_past, Count, first_count, batch_phrase, IsScanning, EndsInZeros, ConsumerState, IsTaking, IsLoading, due_take, takes_at}
+use Rattle.ring_core.proofs.Common.{is_taking}
 use Rattle.bits_core.specs.declared.events.Access.TheVariants as begins
-use Rattle.bits_core.specs.declared.shapes.Shape.{Shape}
-use Rattle.bits_core.specs.Shape.{capacity_of, modulus_of, take_batch_of, width_of}
 use Rattle.bits_core.specs.Open.{IsOpenRight}
 use Rattle.bits_core.specs.Made.{Made, Read, answered, IsPrefix}
-use Rattle.register_core.specs.Machine.{IsNext}
 use Rattle.register_core.specs.Word.{word_read}
 use Rattle.register_core.specs.WordState.{ReaderState, ReaderStands, IsNextRead, due_read}
 use Rattle.register_core.specs.ScanState.{scan_phrase, row_read_by, due_scan, LastIsDue}
-use Rattle.register_core.specs.Unary.{count_writes}
-use Rattle.register_core.specs.UnaryState.{UnaryStands, due_unary}
 use Rattle.ring_core.specs.declared.consumers.Stage.TheVariants.{Scanning, Checking, Rescanning, Loading, Counting}
-use Rattle.ring_core.specs.Counts.{ShowsItem, distance, number_past, Count, first_count, batch_phrase}
-use Rattle.ring_core.specs.Calls.{IsScanning, EndsInZeros}
 use Rattle.ring_core.specs.Lengths.{longest_taking}
 use Rattle.ring_core.specs.Takes.{Take, Takes, Item, ItemAfterClose, Empty, Open, Closed, words_read, items_phrase, take_phrase, take_phrases, end_phrase, take_program, IsTake, SeesItems, SeesNone, IsTakeBatch, AreTakes}
-use Rattle.ring_core.specs.ConsumerState.{ConsumerState, IsTaking, IsLoading, due_take, takes_at, is_taking}
 use Rattle.ring_core.specs.ConsumerCalls.{ConsumerStands, Finding, Twice, finding_phrase, Finds, made_of_take, count_taken, values_taken, and_take, and_end, BeginsTake, TakeGoesOn, TakesAll, IsTakeOf}
 use Rattle.ring_core.proofs.CountRow.{values_writes-push}
 use Rattle.ring_core.proofs.Machines.Lengths.{takes-are_short, ends-are_short}

@@ -1,9 +1,7 @@
 -- A side that has made a prefix of the accesses of calls follows these calls.
 use Rattle.std.proofs.Common.{◌≡◌, ◌*◌, List, [], ◌∷◌, ◌++◌, length, refl, ap, arith, append_assoc}
-use Rattle.bits_core.specs.declared.events.Side.{Side}
-use Rattle.bits_core.specs.declared.events.Side.TheVariants.{P, C}
+use Rattle.ring_core.proofs.Common.{Side, P, C, Made, begin_event, end_event, events_of, IsPrefix}
 use Rattle.bits_core.specs.declared.events.Event.{Event}
-use Rattle.bits_core.specs.Made.{Made, begin_event, end_event, events_of, IsPrefix}
 use Rattle.ring_core.specs.Following.{PutsAreFollowed, TakesAreFollowed}
 
 -- the events of two lists of accesses, one after the other

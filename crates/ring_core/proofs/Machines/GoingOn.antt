@@ -1,25 +1,18 @@
 -- The access that a call under way continues with is the only one: what a call does is a decision tree, along which its accesses go.
 use Rattle.std.proofs.Common.{◌≡◌, inl, inr, ℕ, zero, suc, ◌+◌, ◌-◌, ◌%◌, ◌<◌, ◌≤◌, Bool, true, false, cond, ◌&&◌, min, nat_lt, nat_le, List, [], ◌∷◌, ◌++◌, length, take, refl, sym, ap, subst, ◌∙◌, arith, append_assoc, append-nil}
-use Rattle.std.proofs.lemmas.Bool.Decides.{nat_tests}
-use Rattle.bits_core.specs.declared.events.Bit.TheVariants.{R, X, Cell}
-use Rattle.bits_core.specs.declared.events.Side.TheVariants.{P, C}
-use Rattle.bits_core.specs.declared.events.Access.{Access}
+use Rattle.ring_core.proofs.Common.{nat_tests, R, X, Cell, P, C, Access, Shape, capacity_of, modulus_of, width_of, distance, Count, first_count, count_bits, batch_phrase, IsCount, Stored, Full}
+use Rattle.ring_core.proofs.Common.{words_phrase, put_phrase, put_phrases, put_program, IsPut, ArePuts, IsTakeOf, TakeGoesOn, count_taken}
 use Rattle.bits_core.specs.declared.events.Access.TheVariants as begins
-use Rattle.bits_core.specs.declared.shapes.Shape.{Shape}
-use Rattle.bits_core.specs.Shape.{capacity_of, modulus_of, width_of}
 use Rattle.bits_core.specs.Made.{Made, Read, Write, access_of, answered, IsPrefix}
 use Rattle.register_core.specs.Phrases.{bits_after, row_bit, unary_phrase, writes_in}
 use Rattle.register_core.specs.Row.{RowWrite}
 use Rattle.register_core.specs.Word.{digit, word_read}
 use Rattle.register_core.specs.ScanState.{scan_phrase, row_read_by}
-use Rattle.ring_core.specs.Counts.{distance, Count, first_count, count_bits, batch_phrase, IsCount}
 use Rattle.ring_core.proofs.CountRow.{past_is, bits_long, take_batch_below}
-use Rattle.ring_core.specs.Puts.{Stored, Full, words_phrase, put_phrase, put_phrases, put_program, IsPut, ArePuts}
 use Rattle.ring_core.specs.Puts as puts
 use Rattle.ring_core.specs.Takes.{Take, Takes, End, Item, ItemAfterClose, Empty, Open, Closed, count_after, words_read, items_phrase, take_phrase, take_phrases, end_phrase, take_program, IsTake, IsTakeBatch, SeesItems, SeesNone, AreTakes}
 use Rattle.ring_core.specs.ProducerState.{Call, Put, Close}
 use Rattle.ring_core.specs.ProducerCalls.{count_of, room_in, and_close, IsPutOf, PutGoesOn}
-use Rattle.ring_core.specs.ConsumerCalls.{IsTakeOf, TakeGoesOn, count_taken}
 use Rattle.ring_core.specs.GoingOn.{EndInCellRead, ReadsFirstDigit, WritesTakeCount, PutsGoOnByOne, TakesGoOnByOne}
 use Rattle.ring_core.proofs.Machines.PutCalls as put_calls
 use Rattle.ring_core.proofs.Machines.TakeCalls as take_calls

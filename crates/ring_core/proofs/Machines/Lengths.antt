@@ -1,17 +1,9 @@
 -- How many accesses the phrases of a call have.
 use Rattle.std.proofs.Common.{◌≡◌, ℕ, suc, ◌+◌, ◌*◌, ◌%◌, ◌≤◌, true, false, List, [], ◌∷◌, ◌++◌, length, refl, ap, arith, ◌∙◌, length-append}
-use Rattle.std.proofs.lemmas.List.{length-map}
-use Rattle.std.proofs.Math.Nat.{suc-mul}
-use Rattle.bits_core.specs.declared.events.Side.TheVariants.{P, C}
-use Rattle.bits_core.specs.declared.events.Bit.{Bit}
-use Rattle.bits_core.specs.declared.events.Bit.TheVariants.{X, Cell}
-use Rattle.bits_core.specs.declared.shapes.Shape.{Shape}
-use Rattle.bits_core.specs.Shape.{capacity_of, modulus_of, width_of}
+use Rattle.ring_core.proofs.Common.{length-map, suc-mul, P, C, Bit, X, Cell, Shape, capacity_of, modulus_of, width_of, Count, IsCount, batch_phrase, words_phrase}
 use Rattle.bits_core.specs.Made.{Made, Read, Write}
 use Rattle.register_core.specs.Word.{digit_writes, word_write, word_read}
 use Rattle.register_core.specs.ScanState.{zero_reads, scan_phrase, row_read_by}
-use Rattle.ring_core.specs.Counts.{Count, IsCount, batch_phrase}
-use Rattle.ring_core.specs.Puts.{words_phrase}
 use Rattle.ring_core.specs.Takes.{Item, ItemAfterClose, Empty, words_read, items_phrase}
 use Rattle.ring_core.specs.Lengths.{longest_taking, ItemPutsAreShort, FullPutsAreShort, PutsAreShort, TakesAreShort, EndsAreShort}
 use Rattle.ring_core.proofs.Readings.Phrases.{length-digit_reads, length-digit_writes}

@@ -1,19 +1,11 @@
 -- The machines that both sides are made of: what holds for them while they are running, and once they are done.
 use Rattle.std.proofs.Common.{◌≡◌, inl, inr, ℕ, zero, suc, ◌+◌, ◌%◌, ◌<◌, ◌≤◌, Bool, true, false, not, is_some, Option, Some, None, List, [], ◌∷◌, ◌++◌, length, if◌then◌else◌, refl, sym, ap, subst, ◌∙◌, arith, append_assoc}
-use Rattle.std.proofs.Math.Nat.{mod-eq_of_lt}
-use Rattle.bits_core.specs.declared.events.Side.{Side}
-use Rattle.bits_core.specs.declared.events.Access.{Access}
+use Rattle.ring_core.proofs.Common.{mod-eq_of_lt, Side, Access, Shape, modulus_of, Made, answered, IsNext, UnaryState, bit_in, due_writes, due_unary, UnaryStands, number_past, Count, IsCount}
 use Rattle.bits_core.specs.declared.events.Access.TheVariants.{Read}
-use Rattle.bits_core.specs.declared.shapes.Shape.{Shape}
-use Rattle.bits_core.specs.Shape.{modulus_of}
-use Rattle.bits_core.specs.Made.{Made, answered}
 use Rattle.register_core.specs.Row.{row_bit}
 use Rattle.register_core.specs.ScanState.{ScanState, ScanStands, IsScanOf, IsValueRead, scan_read, due_scan, row_read_by}
-use Rattle.register_core.specs.Machine.{IsNext}
 use Rattle.register_core.specs.Unary.{setting, clearing, unary_phrase, count_writes}
-use Rattle.register_core.specs.UnaryState.{UnaryState, bit_in, due_writes, due_unary, UnaryStands}
 use Rattle.ring_core.specs.Calls.{LastBitIsDue, IsScanning, IsCounted, IsBeingCountedOn}
-use Rattle.ring_core.specs.Counts.{number_past, Count, IsCount}
 use Rattle.ring_core.proofs.CountRow.{past_is, bits_long}
 use Rattle.ring_core.proofs.Readings.Phrases.{at_or_below}
 use Rattle.register_core.proofs.Stands.{idle as no_first}

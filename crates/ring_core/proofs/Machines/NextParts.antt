@@ -1,22 +1,13 @@
 -- What the machines that both sides are made of have due next.
 use Rattle.std.proofs.Common.{◌≡◌, ℕ, zero, suc, ◌%◌, ◌<◌, ◌≤◌, Bool, true, false, cond, IfSome, Option, Some, None, List, [], ◌∷◌, ◌++◌, length, refl, sym, ap, subst, ◌∙◌, arith, append_assoc, append-nil, length-append}
-use Rattle.std.proofs.Math.Nat.{mod-lt}
-use Rattle.std.proofs.lemmas.List.{append_cancel_left}
-use Rattle.std.proofs.lemmas.Bool.Decides.{nat_tests}
-use Rattle.bits_core.specs.declared.events.Side.{Side}
-use Rattle.bits_core.specs.declared.events.Bit.{Bit}
-use Rattle.bits_core.specs.declared.events.Access.{Access}
+use Rattle.ring_core.proofs.Common.{mod-lt, append_cancel_left, nat_tests, Side, Bit, Access, Shape, modulus_of, IsNext, LastBitIsDue, IsScanning}
 use Rattle.bits_core.specs.declared.events.Access.TheVariants as begins
-use Rattle.bits_core.specs.declared.shapes.Shape.{Shape}
-use Rattle.bits_core.specs.Shape.{modulus_of}
 use Rattle.bits_core.specs.Open.{IsOpenRight}
 use Rattle.bits_core.specs.Made.{Made, Read, access_of, answered, IsPrefix}
-use Rattle.register_core.specs.Machine.{IsNext}
 use Rattle.register_core.specs.Row.{RowWrite, row_bit}
 use Rattle.register_core.specs.ScanState.{ScanState, ScanStands, BeginsScan, zero_reads, row_read_by, due_scan}
 use Rattle.register_core.specs.Unary.{clearing, unary_phrase, count_writes}
 use Rattle.register_core.specs.UnaryState.{UnaryState, bit_in, due_writes, due_unary, first_access}
-use Rattle.ring_core.specs.Calls.{LastBitIsDue, IsScanning}
 
 -- ---- beginnings
 

@@ -1,11 +1,6 @@
 -- A program with one more call.
 use Rattle.std.proofs.Common.{◌≡◌, ℕ, ◌≤◌, true, [], ◌∷◌, ◌++◌, List, length, refl, arith, sym, ap, subst, ◌∙◌}
-use Rattle.bits_core.specs.declared.events.Bit.TheVariants.{X}
-use Rattle.bits_core.specs.Made.{Made, Write}
-use Rattle.ring_core.specs.Counts.{first_count}
-use Rattle.ring_core.specs.Puts.{put_phrase}
-use Rattle.ring_core.specs.ProducerCalls.{count_of}
-use Rattle.ring_core.specs.Takes.{Item, ItemAfterClose, Empty, Closed, take_phrase, end_phrase, AreTakes}
+use Rattle.ring_core.proofs.Common.{X, Made, Write, first_count, put_phrase, count_of, Item, ItemAfterClose, Empty, Closed, take_phrase, end_phrase, AreTakes}
 use Rattle.ring_core.specs.ConsumerCalls as takes
 use Rattle.ring_core.specs.ConsumerCalls.{items_reply, reply_items}
 use Rattle.ring_core.specs.OneCallMore.{PutsByOneMore, ClosesByOneMore, TakesByOneMore, EndsByOneMore, TakesOfOne}

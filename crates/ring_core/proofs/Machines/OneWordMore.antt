@@ -1,8 +1,6 @@
 -- The words that a take reads, one after the other.
 use Rattle.std.specs.Prelude.{◌≡◌, ℕ, ◌+◌, ◌%◌, ◌^◌, ◌<◌, ◌≤◌, List, [], ◌∷◌, ◌++◌, length}
-use Rattle.bits_core.specs.declared.shapes.Shape.{Shape}
-use Rattle.bits_core.specs.Shape.{AllFit, capacity_of, width_of}
-use Rattle.bits_core.specs.Made.{IsPrefix}
+use Rattle.ring_core.proofs.Common.{Shape, AllFit, capacity_of, width_of, IsPrefix}
 use Rattle.register_core.specs.Phrases.{word_read}
 use Rattle.ring_core.specs.Takes.{words_read}
 

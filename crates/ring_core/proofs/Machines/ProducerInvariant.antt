@@ -1,18 +1,11 @@
 -- What holds at each stage of the producer's machine holds after an access.
 use Rattle.std.proofs.Common.{◌≡◌, ℕ, suc, ◌+◌, ◌%◌, ◌<◌, Bool, true, false, Option, Some, None, List, length, take, refl, sym, subst, arith}
 use Rattle.std.specs.Prelude.{slice_get}
-use Rattle.bits_core.specs.declared.events.Side.TheVariants.{P}
-use Rattle.bits_core.specs.declared.events.Access.{Access}
-use Rattle.bits_core.specs.Shape.{capacity_of, modulus_of, width_of}
-use Rattle.bits_core.specs.Made.{Made}
+use Rattle.ring_core.proofs.Common.{P, Access, capacity_of, modulus_of, width_of, Made, IsNext, WriterState, WriterStands, UnaryState, LastBitIsDue}
 use Rattle.register_core.specs.ScanState.{ScanState, ScanStands, IsScanOf, IsValueRead, row_read_by, scan_read, due_scan}
-use Rattle.register_core.specs.Machine.{IsNext}
 use Rattle.register_core.specs.Word.{word_write}
-use Rattle.register_core.specs.WordState.{WriterState, WriterStands}
-use Rattle.register_core.specs.UnaryState.{UnaryState}
 use Rattle.ring_core.specs.declared.producers.Stage.{Stage}
 use Rattle.ring_core.specs.declared.producers.Stage.TheVariants.{Scanning, Storing, Counting}
-use Rattle.ring_core.specs.Calls.{LastBitIsDue}
 use Rattle.ring_core.specs.ProducerState.{ProducerState, IsProducer, ProducerIsAt, IsPutting, IsWritingWord, due_put, producer_due_at}
 use Rattle.ring_core.proofs.CountRow.{batch_below}
 use Rattle.ring_core.proofs.Machines.MachineParts.{ScanGoesOn, scanning, gives, counting_on}

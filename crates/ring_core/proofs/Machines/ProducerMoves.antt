@@ -1,26 +1,17 @@
 -- The producer's machine, access by access.
 use Rattle.std.proofs.Common.{◌≡◌, ◌⊎◌, inl, ℕ, suc, ◌+◌, ◌%◌, ◌≤◌, Bool, true, false, Option, Some, None, List, [], ◌∷◌, ◌++◌, length, take, refl, sym, ap, subst, ◌∙◌, append_assoc, append-nil, arith}
 use Rattle.std.specs.Prelude.{slice_get}
-use Rattle.std.proofs.lemmas.List.{append_cancel_left}
-use Rattle.bits_core.specs.declared.events.Side.TheVariants.{P}
-use Rattle.bits_core.specs.declared.events.Bit.TheVariants.{X, Cell}
-use Rattle.bits_core.specs.declared.events.Access.{Access}
+use Rattle.ring_core.proofs.Common.{append_cancel_left, P, X, Cell, Access, Shape, capacity_of, modulus_of, width_of, Made, answered, WriterState, WriterStands, due_write, count_writes, UnaryState}
+use Rattle.ring_core.proofs.Common.{UnaryStands, LeavesRoom, LeavesRoomFor, distance, number_past, Count, first_count, batch_phrase, Puts, Stored, Full, number_after, words_phrase, put_phrase}
+use Rattle.ring_core.proofs.Common.{put_phrases, IsBatch, IsPut, ArePuts}
 use Rattle.bits_core.specs.declared.events.Access.TheVariants as begins
-use Rattle.bits_core.specs.declared.shapes.Shape.{Shape}
-use Rattle.bits_core.specs.Shape.{capacity_of, modulus_of, width_of}
-use Rattle.bits_core.specs.Made.{Made, answered}
 use Rattle.register_core.specs.Row.{writes_in}
 use Rattle.register_core.specs.Word.{digit_writes, word_write}
-use Rattle.register_core.specs.WordState.{WriterState, WriterStands, due_write}
 use Rattle.register_core.specs.ScanState.{ScanState, ScanStands, scan_phrase, row_read_by, IsScanOf}
-use Rattle.register_core.specs.Unary.{count_writes}
-use Rattle.register_core.specs.UnaryState.{UnaryState, UnaryStands}
 use Rattle.ring_core.specs.declared.replies.BatchReply.{BatchReply}
 use Rattle.ring_core.specs.declared.replies.BatchReply.TheVariants as reply
 use Rattle.ring_core.specs.declared.producers.Stage.{Stage}
 use Rattle.ring_core.specs.declared.producers.Stage.TheVariants.{Idle, Scanning, Storing, Counting, Closing}
-use Rattle.ring_core.specs.Counts.{LeavesRoom, LeavesRoomFor, distance, number_past, Count, first_count, batch_phrase}
-use Rattle.ring_core.specs.Puts.{Puts, Stored, Full, number_after, words_phrase, put_phrase, put_phrases, IsBatch, IsPut, ArePuts}
 use Rattle.ring_core.specs.Puts as puts
 use Rattle.ring_core.specs.ProducerState.{ProducerState, Call, Put, Close, call_of, call_at, due_put, producer_due_at}
 use Rattle.ring_core.specs.ProducerCalls.{count_of, values_of, ProducerStands, ProducerMadeAt, ProducerHasMoved, ProducerMoves, IsPutOf, put_reply_to, and_put, and_close, HasCallMore, IsOpenForCall, closes_with, IsAfterCall}

@@ -1,25 +1,13 @@
 -- The access that the producer's machine has due is the next one of its call.
 use Rattle.std.proofs.Common.{◌≡◌, ◌⊎◌, inl, inr, ℕ, zero, suc, ◌+◌, ◌%◌, ◌<◌, ◌≤◌, true, false, IfSome, Option, Some, None, List, [], ◌∷◌, ◌++◌, length, take, refl, sym, ap, subst, ◌∙◌, arith, append_assoc, length-append}
-use Rattle.std.proofs.Math.Nat.{mod-lt}
-use Rattle.std.proofs.lemmas.Bool.Decides.{nat_tests}
-use Rattle.bits_core.specs.declared.events.Side.TheVariants.{P}
-use Rattle.bits_core.specs.declared.events.Bit.TheVariants.{X, Cell}
-use Rattle.bits_core.specs.declared.events.Access.{Access}
+use Rattle.ring_core.proofs.Common.{mod-lt, nat_tests, P, X, Cell, Access, Shape, capacity_of, modulus_of, width_of, Made, Write, answered, IsPrefix, IsNext, WriterState, WriterStands, due_write}
+use Rattle.ring_core.proofs.Common.{count_writes, UnaryStands, due_unary, LeavesRoom, LeavesRoomFor, number_past, Count, first_count, batch_phrase, IsCount, IsScanning, Puts, Stored, Full}
+use Rattle.ring_core.proofs.Common.{words_phrase, put_phrase, put_phrases, put_program, IsBatch, IsPut, ArePuts}
 use Rattle.bits_core.specs.declared.events.Access.TheVariants as begins
-use Rattle.bits_core.specs.declared.shapes.Shape.{Shape}
-use Rattle.bits_core.specs.Shape.{capacity_of, modulus_of, width_of}
 use Rattle.bits_core.specs.Open.{IsOpenRight}
-use Rattle.bits_core.specs.Made.{Made, Write, answered, IsPrefix}
-use Rattle.register_core.specs.Machine.{IsNext}
 use Rattle.register_core.specs.Word.{digit, word_write}
-use Rattle.register_core.specs.WordState.{WriterState, WriterStands, due_write}
 use Rattle.register_core.specs.ScanState.{scan_phrase, row_read_by, due_scan}
-use Rattle.register_core.specs.Unary.{count_writes}
-use Rattle.register_core.specs.UnaryState.{UnaryStands, due_unary}
 use Rattle.ring_core.specs.declared.producers.Stage.TheVariants.{Scanning, Storing, Counting}
-use Rattle.ring_core.specs.Counts.{LeavesRoom, LeavesRoomFor, number_past, Count, first_count, batch_phrase, IsCount}
-use Rattle.ring_core.specs.Calls.{IsScanning}
-use Rattle.ring_core.specs.Puts.{Puts, Stored, Full, words_phrase, put_phrase, put_phrases, put_program, IsBatch, IsPut, ArePuts}
 use Rattle.ring_core.specs.Puts as puts
 use Rattle.ring_core.specs.ProducerState.{ProducerState, Call, Put, Close, call_at, call_of, due_put, IsWritingWord, IsKeeping}
 use Rattle.ring_core.specs.ProducerCalls.{count_of, values_of, room_in, ProducerStands, IsPutOf, and_put, BeginsCall, PutGoesOn, longest_of, longest}

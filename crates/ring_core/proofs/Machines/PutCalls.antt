@@ -1,14 +1,10 @@
 -- A program of puts with one more put.
 use Rattle.std.proofs.Common.{◌≡◌, ℕ, ◌%◌, Option, Some, List, [], ◌∷◌, ◌++◌, refl, ap, ◌∙◌, append-nil, sym, append_assoc, arith}
-use Rattle.bits_core.specs.declared.shapes.Shape.{Shape}
-use Rattle.bits_core.specs.Shape.{modulus_of}
+use Rattle.ring_core.proofs.Common.{Shape, modulus_of, unary_writes, row_writes, number_past, Count, first_count, IsCount, all_put}
 use Rattle.register_core.specs.Row.{bits_after}
-use Rattle.register_core.specs.Unary.{unary_writes, row_writes}
 use Rattle.ring_core.specs.declared.replies.BatchReply.{BatchReply}
-use Rattle.ring_core.specs.Counts.{number_past, Count, first_count, IsCount}
 use Rattle.ring_core.specs.Puts.{Put, Puts, Stored, Full, stored_after, stored_count, put_values, put_phrase, put_phrases, put_program, IsPut, ArePuts}
 use Rattle.ring_core.specs.ProducerCalls.{count_of, and_put, put_reply_to, last_put_reply}
-use Rattle.ring_core.specs.Items.{all_put}
 use Rattle.ring_core.proofs.CountRow.{value_held, first_is_count, counted_is_count}
 use Rattle.ring_core.proofs.Readings.ByCalls.{puts_go_by_calls, calls-push, state-push}
 

@@ -1,16 +1,11 @@
 -- What a producer may do next, by how far its put under way has come.
 use Rattle.std.proofs.Common.{◌≡◌, ◌⊎◌, inl, inr, ℕ, zero, suc, ◌+◌, ◌%◌, ◌<◌, ◌≤◌, Bool, true, false, List, [], ◌∷◌, ◌++◌, length, refl, sym, ap, subst, ◌∙◌, arith, append_assoc, append-nil, length-append}
-use Rattle.std.proofs.lemmas.List.{append_cancel_left, map-append}
-use Rattle.bits_core.specs.declared.events.Side.TheVariants.{P}
-use Rattle.bits_core.specs.declared.events.Bit.{Bit}
-use Rattle.bits_core.specs.declared.events.Bit.TheVariants.{R, X, Cell}
-use Rattle.bits_core.specs.declared.shapes.Shape.{Shape}
-use Rattle.bits_core.specs.Shape.{AllFit, capacity_of, modulus_of, width_of, batch_of}
+use Rattle.ring_core.proofs.Common.{append_cancel_left, map-append, P, Bit, R, X, Cell, Shape, AllFit, capacity_of, modulus_of, width_of, batch_of, LeavesRoom, LeavesRoomFor, number_past, Count}
+use Rattle.ring_core.proofs.Common.{first_count, count_bits, batch_phrase, IsCount}
 use Rattle.bits_core.specs.Made.{Made, Read, Write}
 use Rattle.register_core.specs.Row.{RowWrite, row_bit, writes_in}
 use Rattle.register_core.specs.Word.{digit, digit_writes, word_write}
 use Rattle.register_core.specs.ScanState.{zero_reads, scan_phrase, row_read_by}
-use Rattle.ring_core.specs.Counts.{LeavesRoom, LeavesRoomFor, number_past, Count, first_count, count_bits, batch_phrase, IsCount}
 use Rattle.ring_core.specs.Puts.{Put, Stored, Full, stored_after, words_phrase, put_phrase, put_phrases, close_phrase, IsBatch, IsPut, ArePuts}
 use Rattle.ring_core.specs.PutParts.{GoesBehind, count_behind, count_access, ScansOrCloses, ScansOn, StoresOrCounts, StoresOn, CountsOn}
 use Rattle.ring_core.specs.GoingOn.{LastPutsReadOne}

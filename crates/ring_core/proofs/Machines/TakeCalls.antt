@@ -1,19 +1,14 @@
 -- A program of takes with one more take, or with the take that returns Closed.
 use Rattle.std.proofs.Common.{Bool, true, ◌≡◌, ℕ, zero, suc, ◌+◌, ◌-◌, ◌%◌, Option, Some, List, [], ◌∷◌, ◌++◌, length, refl, sym, ap, ◌∙◌, arith, append_assoc, append-nil, length-append}
 use Rattle.std.proofs.lemmas.Nat.{pow_pos}
-use Rattle.bits_core.specs.declared.shapes.Shape.{Shape}
-use Rattle.bits_core.specs.Shape.{AllFit, capacity_of, modulus_of, width_of}
-use Rattle.bits_core.specs.declared.events.Access.{Access}
+use Rattle.ring_core.proofs.Common.{Shape, AllFit, capacity_of, modulus_of, width_of, Access, unary_writes, row_writes, number_past, Count, first_count, IsCount, Tells, all_taken, taken_of}
+use Rattle.ring_core.proofs.Common.{ConsumerState, consumer_due_at, takes_at}
 use Rattle.register_core.specs.Row.{bits_after}
-use Rattle.register_core.specs.Unary.{unary_writes, row_writes}
 use Rattle.register_core.specs.Phrases.{word_read}
 use Rattle.ring_core.specs.declared.replies.TakeReply.{TakeReply}
-use Rattle.ring_core.specs.Counts.{number_past, Count, first_count, IsCount}
 use Rattle.ring_core.specs.Takes.{Take, Takes, Item, ItemAfterClose, Empty, Open, Closed, count_after, taken_count, words_read, items_phrase, take_phrase, take_phrases, take_program, IsTake, SeesNone, IsTakeBatch, AreTakes, End}
 use Rattle.ring_core.proofs.Machines.OneWordMore.{WordsGoOn}
 use Rattle.ring_core.specs.ConsumerCalls.{Finding, Once, Twice, finding_phrase, Finds, IsTakeOf, count_taken, take_values, and_take, items_reply, take_reply_to, last_take_reply, last_items, take_batch_reply, IsReplyToTake, AreItemsOfTake, IsBatchReplyToTake, ends_closed}
-use Rattle.ring_core.specs.Items.{Tells, all_taken, taken_of}
-use Rattle.ring_core.specs.ConsumerState.{ConsumerState, consumer_due_at, takes_at}
 use Rattle.ring_core.specs.declared.consumers.Stage.{Stage}
 use Rattle.ring_core.proofs.CountRow.{value_held, first_is_count, counted_is_count}
 use Rattle.ring_core.proofs.Readings.ByCalls.{takes_go_by_calls, calls-push}

@@ -1,14 +1,8 @@
 -- What a consumer may do next: after the same accesses and answers, a take and any takes continue with the same access, except that after
 -- a complete word one may read the next and the other count.
 use Rattle.std.proofs.Common.{◌≡◌, inl, inr, ℕ, suc, ◌+◌, true, List, [], ◌∷◌, ◌++◌, length, refl, sym, ap, subst, ◌∙◌, arith, append_assoc}
-use Rattle.std.proofs.lemmas.List.{append_cancel_left}
-use Rattle.bits_core.specs.declared.events.Access.{Access}
-use Rattle.bits_core.specs.declared.shapes.Shape.{Shape}
-use Rattle.bits_core.specs.Shape.{take_batch_of}
-use Rattle.bits_core.specs.Made.{Made, answered}
-use Rattle.ring_core.specs.Counts.{Count, first_count}
-use Rattle.ring_core.specs.Takes.{Take, End, Item, ItemAfterClose, Empty, count_after, taken_count, take_phrases, IsTake}
-use Rattle.ring_core.specs.ConsumerCalls.{count_taken}
+use Rattle.ring_core.proofs.Common.{append_cancel_left, Access, Shape, take_batch_of, Made, answered, Count, first_count, Take, End, Item, ItemAfterClose, Empty, count_after, taken_count}
+use Rattle.ring_core.proofs.Common.{take_phrases, IsTake, count_taken}
 use Rattle.ring_core.specs.GoingOn.{EndInCellRead, TakesPart, TakesGoOn, TakesGoOnAlike}
 use Rattle.ring_core.proofs.CountRow.{first_is_count}
 use Rattle.ring_core.proofs.Machines.GoingOn.{Allowed, take_goes, takes_along, takes_tree, access_back}

@@ -1,14 +1,11 @@
 -- Programs as decision trees: which access comes next, by what the reads before it returned. Two lists of accesses that go along one tree
 -- have the same next access after the same accesses and answers.
 use Rattle.std.proofs.Common.{◌≡◌, ◌⊎◌, inl, inr, ℕ, zero, suc, ◌<◌, Bool, true, false, cond, List, [], ◌∷◌, ◌++◌, refl, sym, subst, arith, append_assoc, append-nil}
-use Rattle.bits_core.specs.declared.events.Bit.{Bit}
-use Rattle.bits_core.specs.declared.events.Bit.TheVariants.{Cell}
-use Rattle.bits_core.specs.declared.events.Access.{Access}
+use Rattle.ring_core.proofs.Common.{Bit, Cell, Access, EndInCellRead}
 use Rattle.bits_core.specs.declared.events.Access.TheVariants as begins
 use Rattle.bits_core.specs.Made.{Made, Read, Write, access_of}
 use Rattle.register_core.specs.Word.{digit, digit_reads}
 use Rattle.register_core.specs.ScanState.{scan_phrase}
-use Rattle.ring_core.specs.GoingOn.{EndInCellRead}
 use Rattle.ring_core.proofs.Readings.Phrases.{scan-front}
 
 -- what a side does: nothing more, or an access, and then what depends on the answer

@@ -1,18 +1,12 @@
 -- Each call has the spans of its looks, and they are at its own events.
 use Rattle.std.proofs.Common.{◌≡◌, inl, inr, ℕ, ◌+◌, true, false, List, [], ◌∷◌, ◌++◌, length, refl, ap, subst, ◌∙◌, arith, length-append}
-use Rattle.bits_core.specs.declared.events.Side.{Side}
-use Rattle.bits_core.specs.declared.events.Side.TheVariants.{P, C}
-use Rattle.bits_core.specs.declared.events.Bit.TheVariants.{X}
-use Rattle.bits_core.specs.declared.shapes.Shape.{Shape}
+use Rattle.ring_core.proofs.Common.{Side, P, C, X, Shape, number_past, Count, first_count, batch_phrase, Take, Item, ItemAfterClose, Empty, End, Takes, taken_in, count_after, taken_count, take_phrase}
+use Rattle.ring_core.proofs.Common.{take_phrases, events_in, IsPutAt, IsTakeAt, scan_events}
 use Rattle.bits_core.specs.Made.{Made, Read}
 use Rattle.register_core.specs.ScanState.{scan_phrase, row_read_by}
-use Rattle.ring_core.specs.Counts.{number_past, Count, first_count, batch_phrase}
 use Rattle.ring_core.specs.Puts.{Put, Stored, Full, Puts, stored_in, stored_after, stored_count, words_phrase, put_phrase, put_phrases}
-use Rattle.ring_core.specs.Takes.{Take, Item, ItemAfterClose, Empty, End, Takes, taken_in, count_after, taken_count, take_phrase, take_phrases}
-use Rattle.ring_core.specs.Items.{events_in}
 use Rattle.ring_core.proofs.OverSpans.Spans.{Span, Outcome, Passes, Stops, Asks, counts, whole, IsSpanAt}
 use Rattle.ring_core.proofs.OverSpans.LookSpans.{Look, look, put_looks, take_looks, span_of, spans, put_spans, take_spans}
-use Rattle.ring_core.specs.CallsAt.{IsPutAt, IsTakeAt, scan_events}
 use Rattle.ring_core.proofs.CountRow.{past_is}
 use Rattle.ring_core.proofs.Machines.PutCalls as put
 use Rattle.ring_core.proofs.Machines.TakeCalls as take

@@ -1,17 +1,10 @@
 -- The calls of each side as looks: their accesses, their items and their rules by spans.
 use Rattle.std.proofs.Common.{◌≡◌, ◌⊎◌, inl, inr, ℕ, ◌+◌, ◌-◌, ◌*◌, ◌%◌, ◌<◌, ◌≤◌, Bool, true, false, if◌then◌else◌, List, [], ◌∷◌, ◌++◌, length, refl, arith, append_assoc, length-append}
-use Rattle.std.proofs.lemmas.Bool.Decides.{nat_tests}
-use Rattle.bits_core.specs.declared.events.Side.{Side}
-use Rattle.bits_core.specs.declared.events.Side.TheVariants.{P, C}
-use Rattle.bits_core.specs.declared.events.Bit.TheVariants.{X}
-use Rattle.bits_core.specs.declared.shapes.Shape.{Shape}
-use Rattle.bits_core.specs.Shape.{AllFit, batch_of, capacity_of, modulus_of, take_batch_of, width_of}
+use Rattle.ring_core.proofs.Common.{nat_tests, Side, P, C, X, Shape, AllFit, batch_of, capacity_of, modulus_of, take_batch_of, width_of, distance, number_past, Count, first_count, batch_phrase}
+use Rattle.ring_core.proofs.Common.{IsCount, Take, Item, ItemAfterClose, Empty, End, Open, Closed, Takes, count_after, take_phrases, end_phrase, AreTakes, items_put, items_taken}
 use Rattle.bits_core.specs.Made.{Made, Read}
 use Rattle.register_core.specs.ScanState.{scan_phrase, row_read_by}
-use Rattle.ring_core.specs.Counts.{distance, number_past, Count, first_count, batch_phrase, IsCount}
 use Rattle.ring_core.specs.Puts.{Put, Stored, Full, Puts, stored_after, words_phrase, put_phrases, close_phrase, ArePuts}
-use Rattle.ring_core.specs.Takes.{Take, Item, ItemAfterClose, Empty, End, Open, Closed, Takes, count_after, take_phrases, end_phrase, AreTakes}
-use Rattle.ring_core.specs.Items.{items_put, items_taken}
 use Rattle.ring_core.proofs.OverSpans.Spans.{Outcome, Passes, Stops, Asks, Span, counts, items_of, whole, total, begun_items, ended_items, IsSpanAt}
 use Rattle.ring_core.proofs.OverSpans.Clocks as clocks
 use Rattle.ring_core.proofs.OverSpans.LookSpans.{Look, look, put_looks, take_looks, put_spans, take_spans, words_read, word_part, count_part, look_number, after_look, look_accesses, span_of, spans, LookAt}

@@ -1,21 +1,12 @@
 -- The law of the unary register, for the scans of one side and the count writes of the other.
 use Rattle.std.proofs.Common.{◌≡◌, ℕ, suc, ◌+◌, ◌-◌, ◌*◌, ◌<◌, ◌≤◌, List, [], ◌++◌, length, take, sym, ap, subst, ◌∙◌, arith}
 use Rattle.std.proofs.lemmas.List.{take-append-le}
-use Rattle.std.proofs.lemmas.List.Elements.{filter_map-append}
-use Rattle.bits_core.specs.declared.events.Side.{Side}
-use Rattle.bits_core.specs.declared.events.Side.TheVariants.{P, C}
+use Rattle.ring_core.proofs.Common.{filter_map-append, Side, P, C, Shape, modulus_of, batch_of, take_batch_of, other, IsLawful, first_count, Puts, close_phrase, FollowsPuts, Takes, FollowsTakes}
 use Rattle.bits_core.specs.declared.events.Event.{Event}
-use Rattle.bits_core.specs.declared.shapes.Shape.{Shape}
-use Rattle.bits_core.specs.Shape.{modulus_of, batch_of, take_batch_of}
-use Rattle.bits_core.specs.Bits.{other}
-use Rattle.bits_core.specs.Lawful.{IsLawful}
 use Rattle.bits_core.specs.Made.{Made, subhistory, clock, place_of, events_of, IsPrefix}
 use Rattle.register_core.specs.UnaryLaw.{count_write, count_begun, count_ended, WritesUnary, ended_before, begun_before, IsScan, IsRegularValue}
 use Rattle.register_core.specs.MadeReads.{begin_place, end_place}
 use Rattle.register_core.specs.ScanState.{row_read_by}
-use Rattle.ring_core.specs.Counts.{first_count}
-use Rattle.ring_core.specs.Puts.{Puts, close_phrase, FollowsPuts}
-use Rattle.ring_core.specs.Takes.{Takes, FollowsTakes}
 use Rattle.ring_core.proofs.OverSpans.Spans.{Span, counts_begun, counts_ended, IsSpanAt, tally}
 use Rattle.ring_core.proofs.OverSpans.Clocks.{IsPlace, Permitted, AreRegular}
 use Rattle.ring_core.proofs.OverSpans.LookSpans.{Look, put_looks, take_looks, look_accesses, spans, put_spans, take_spans, LookAt}

@@ -1,20 +1,12 @@
 -- The law of the ring over spans, as it is proved; the law over calls is derived from it.
 use Rattle.std.specs.Prelude.{◌≡◌, ℕ, suc, ◌+◌, ◌-◌, ◌*◌, ◌<◌, ◌≤◌, ◌%◌, false, Some, List, length, slice_get}
-use Rattle.bits_core.specs.declared.events.Side.{Side}
-use Rattle.bits_core.specs.declared.events.Side.TheVariants.{P, C}
+use Rattle.ring_core.proofs.Common.{Side, P, C, Shape, batch_of, capacity_of, modulus_of, take_batch_of, width_of, subhistory, clock, IsPlaceOf, distance, first_count, Puts, put_phrases, Takes}
+use Rattle.ring_core.proofs.Common.{events_in, items_put, IsInterval, TakenArePrefix, ClosedIsTrue}
 use Rattle.bits_core.specs.declared.events.Event.{Event}
-use Rattle.bits_core.specs.declared.shapes.Shape.{Shape}
-use Rattle.bits_core.specs.Shape.{batch_of, capacity_of, modulus_of, take_batch_of, width_of}
 use Rattle.bits_core.specs.Intervals as intervals
-use Rattle.bits_core.specs.Made.{subhistory, clock, IsPlaceOf}
-use Rattle.ring_core.specs.Counts.{distance, first_count}
-use Rattle.ring_core.specs.Puts.{Puts, put_phrases}
-use Rattle.ring_core.specs.Takes.{Takes}
-use Rattle.ring_core.specs.Items.{events_in, items_put}
 use Rattle.ring_core.proofs.OverSpans.Spans.{Span, Asks, counts, items_of, before_count, counts_begun, counts_ended, IsSpanAt, sizes, tally}
 use Rattle.ring_core.proofs.OverSpans.Clocks.{IsPlace}
 use Rattle.ring_core.proofs.OverSpans.LookSpans.{put_spans, take_spans}
-use Rattle.ring_core.specs.RingLaw.{IsInterval, TakenArePrefix, ClosedIsTrue}
 
 -- the items of the puts whose count write has begun before a place
 abbrev pub puts_begun : Shape → List Event → Puts → ℕ → ℕ

@@ -1,7 +1,6 @@
 -- What follows from the counts: no overlapping access to a cell, the items in order, what a full and an empty ring imply, and the close.
 use Rattle.std.specs.Prelude.{slice_get, Some}
-use Rattle.std.proofs.Math.Nat.{suc-mul, mul-le-mul_right}
-use Rattle.std.proofs.lemmas.Option.{slice_get_within, get_or_from_slice_get}
+use Rattle.ring_core.proofs.Common.{suc-mul, mul-le-mul_right, slice_get_within, get_or_from_slice_get, distance}
 use Rattle.std.proofs.Common.{◌≡◌, inl, inr, ℕ, suc, ◌+◌, ◌-◌, ◌*◌, ◌<◌, ◌≤◌, ◌%◌, true, false, List, ◌++◌, length, get_or, drop, append-nil, drop_of_length-le, refl, sym, ap, ◌∙◌, add-zero, arith}
 use Rattle.std.proofs.lemmas.List.Prefix.{front_from_reads}
 use Rattle.ring_core.proofs.OverSpans.Spans.{Span, Outcome, Asks, counts, items_of, before_count, whole, counts_begun, counts_ended, begun_items, ended_items, all_items, total, IsSpanAt}
@@ -9,7 +8,6 @@ use Rattle.ring_core.proofs.OverSpans.Clocks.{IsPlace, CellOverlap, word_end, Ri
 use Rattle.ring_core.proofs.Readings.Cuts.{at_most_or_above}
 use Rattle.ring_core.proofs.OverSpans.Timeline.{AllProper, before-whole, before-count, ended_begun, begun_at, ended_at, begun_up, ended_up, begun_all, ended_all, Found, begun_find, ended_find, length-begun_items, length-ended_items, all_begun}
 use Rattle.ring_core.proofs.OverSpans.Distances.{apart, distance_of}
-use Rattle.ring_core.specs.Counts.{distance}
 use Rattle.ring_core.proofs.OverSpans.Gates.{clock_up, place_of, clock_p, clock_c, proper_at, shows_none, leaves_none, within, shown_at, left_at, behind as has_begun, ahead as has_room}
 
 -- an item of an outcome is one of those that it counts

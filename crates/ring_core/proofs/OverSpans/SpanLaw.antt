@@ -1,10 +1,9 @@
 -- The law of the ring at every moment, over the clocks of two sides and the spans of their events.
 use Rattle.std.specs.Prelude.{slice_get, Some}
 use Rattle.std.proofs.Common.{◌≡◌, inr, ℕ, ◌+◌, ◌-◌, ◌<◌, ◌≤◌, ◌%◌, true, false, List, [], ◌∷◌, length, drop, refl, sym, ap, arith}
-use Rattle.bits_core.specs.Made.{IsPrefix}
+use Rattle.ring_core.proofs.Common.{IsPrefix, distance}
 use Rattle.ring_core.proofs.OverSpans.Spans.{Span, Asks, counts, items_of, before_count, whole, counts_begun, counts_ended, begun_items, ended_items, all_items, total, IsSpanAt}
 use Rattle.ring_core.proofs.OverSpans.RingOfSpans.{ReadsCount}
-use Rattle.ring_core.specs.Counts.{distance}
 use Rattle.ring_core.proofs.OverSpans.Clocks.{IsPlace, CellOverlap, word_end, Ring}
 use Rattle.ring_core.proofs.OverSpans.Timeline.{AllProper, before-whole}
 use Rattle.ring_core.proofs.OverSpans.Gates.{clock_up, clock_c, proper_at, within, shown_at, left_at}

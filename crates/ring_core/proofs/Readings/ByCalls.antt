@@ -1,10 +1,7 @@
 -- Calls one after the other, whichever side makes them: the phrases of the first ones, and of the later ones.
 use Rattle.std.proofs.Common.{◌≡◌, false, List, [], ◌∷◌, ◌++◌, refl, sym, ap, ◌∙◌, append_assoc, append-nil, arith}
-use Rattle.bits_core.specs.declared.shapes.Shape.{Shape}
-use Rattle.bits_core.specs.Made.{Made}
-use Rattle.ring_core.specs.Counts.{first_count}
-use Rattle.ring_core.specs.Puts.{Puts, close_phrase, put_phrase, put_phrases, put_program, stored_after, stored_count}
-use Rattle.ring_core.specs.Takes.{Open, Takes, end_phrase, take_phrase, take_phrases, take_program, count_after, taken_count}
+use Rattle.ring_core.proofs.Common.{Shape, Made, first_count, Puts, close_phrase, put_phrase, put_phrases, put_program, stored_after, stored_count, Open, Takes, end_phrase, take_phrase, take_phrases}
+use Rattle.ring_core.proofs.Common.{take_program, count_after, taken_count}
 
 -- calls have the phrase of the first one, and then, from the state it results in, those of the others
 pub record GoByCalls {S X : Type 0} (phrase : S → X → List Made) (phrases : S → List X → List Made) (after : S → X → S) (state : S → List X → S) : Type 0 where

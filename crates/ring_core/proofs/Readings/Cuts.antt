@@ -1,8 +1,7 @@
 -- Lists of events and of accesses that two programs begin with.
 use Rattle.std.proofs.Common.{◌≡◌, ℕ, suc, ◌*◌, ◌<◌, ◌≤◌, List, [], ◌∷◌, ◌++◌, length, refl, sym, ap, ◌∙◌, arith, ◌⊎◌, append_assoc, append-nil, length-append}
-use Rattle.bits_core.specs.declared.events.Side.{Side}
+use Rattle.ring_core.proofs.Common.{Side, Made, begin_event, events_of, IsPrefix}
 use Rattle.bits_core.specs.declared.events.Event.{Event}
-use Rattle.bits_core.specs.Made.{Made, begin_event, events_of, IsPrefix}
 
 -- one number is at most the other, or above it
 pub at_most_or_above : (a b : ℕ) → (a ≤ b) ⊎ (b < a)

@@ -1,14 +1,7 @@
 -- The items put in a history are those of each reading of its events.
 use Rattle.std.proofs.Common.{◌≡◌, ℕ, suc, true, ap₂, ◌-◌, ◌*◌, ◌<◌, ◌≤◌, Bool, List, [], ◌∷◌, ◌++◌, length, refl, sym, ap, subst, ◌∙◌, arith, inl, inr, nat_lt, if◌then◌else◌, append_assoc, append-nil, length-append}
-use Rattle.std.proofs.lemmas.Bool.{le-ltb}
-use Rattle.std.proofs.lemmas.List.{append_cancel_left}
-use Rattle.bits_core.specs.declared.events.Side.TheVariants.{P}
-use Rattle.bits_core.specs.declared.events.Bit.{Bit}
-use Rattle.bits_core.specs.declared.events.Bit.TheVariants.{X, Cell}
-use Rattle.bits_core.specs.declared.shapes.Shape.{Shape}
-use Rattle.bits_core.specs.Made.{Made, Write, subhistory, IsPrefix}
+use Rattle.ring_core.proofs.Common.{le-ltb, append_cancel_left, P, Bit, X, Cell, Shape, Made, Write, subhistory, IsPrefix, Count, first_count, batch_phrase, IsCount}
 use Rattle.register_core.specs.ScanState.{scan_phrase, row_read_by}
-use Rattle.ring_core.specs.Counts.{Count, first_count, batch_phrase, IsCount}
 use Rattle.ring_core.specs.Readings.{PutsAreFirst, PutsAreRead}
 use Rattle.ring_core.specs.Puts.{accesses_before_count, Put, Puts, Stored, Full, stored_after, stored_count, words_phrase, put_phrase, put_phrases, close_phrase, put_program, IsPut, ArePuts}
 use Rattle.ring_core.specs.Items.{events_in, items_put, ItemsAreRead}

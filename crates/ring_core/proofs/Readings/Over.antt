@@ -1,18 +1,11 @@
 -- The calls that are over are the same in every reading of a history.
 use Rattle.std.proofs.Common.{◌≡◌, inl, inr, ℕ, ◌+◌, ◌-◌, ◌*◌, ◌<◌, ◌≤◌, Bool, true, false, cond, List, [], ◌∷◌, ◌++◌, length, refl, sym, ap, subst, ◌∙◌, arith, nat_le, append_assoc, append-nil, length-append}
-use Rattle.std.proofs.lemmas.Bool.{leb-true, le-leb, lt-leb}
-use Rattle.std.proofs.lemmas.Bool.Decides.{nat_tests}
-use Rattle.bits_core.specs.declared.events.Side.{Side}
-use Rattle.bits_core.specs.declared.events.Side.TheVariants.{P, C}
+use Rattle.ring_core.proofs.Common.{leb-true, le-leb, lt-leb, nat_tests, Side, P, C, Shape, Made, events_of, subhistory, IsPrefix, Count, first_count, HasTakeMore, Take, Takes, End, Open, AreTakes}
+use Rattle.ring_core.proofs.Common.{taken_after, taken_in, end_phrase, take_phrase, take_phrases, take_program, count_after}
 use Rattle.bits_core.specs.declared.events.Event.{Event}
-use Rattle.bits_core.specs.declared.shapes.Shape.{Shape}
-use Rattle.bits_core.specs.Made.{Made, events_of, subhistory, IsPrefix}
-use Rattle.ring_core.specs.Counts.{Count, first_count}
 use Rattle.ring_core.specs.Items.{events_in, taken_of, all_taken, items_taken, ToldIn, TakenAreRead}
 use Rattle.ring_core.specs.Over.{over, takes_over, PutsOverAreRead, TakesOverAreRead}
 use Rattle.ring_core.specs.Puts.{Put, Puts, ArePuts, close_phrase, number_after, put_phrase, put_phrases, put_program, stored_after, stored_count}
-use Rattle.ring_core.specs.ConsumerCalls.{HasTakeMore}
-use Rattle.ring_core.specs.Takes.{Take, Takes, End, Open, AreTakes, taken_after, taken_in, end_phrase, take_phrase, take_phrases, take_program, count_after}
 use Rattle.ring_core.proofs.CountRow.{past_is}
 use Rattle.ring_core.proofs.Readings.Cuts.{cut}
 use Rattle.ring_core.proofs.Readings.ByCalls.{GoByCalls, calls-append, puts_go_by_calls, takes_go_by_calls}

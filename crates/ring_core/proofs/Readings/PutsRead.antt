@@ -1,15 +1,9 @@
 -- Equal events of complete calls of the producer come from equal calls.
 use Rattle.std.proofs.Common.{◌≡◌, ℕ, zero, suc, ◌%◌, ◌<◌, ◌≤◌, Bool, true, false, List, [], ◌∷◌, ◌++◌, refl, ap, arith, append_assoc}
-use Rattle.bits_core.specs.declared.events.Side.TheVariants.{P}
-use Rattle.bits_core.specs.declared.events.Bit.{Bit}
-use Rattle.bits_core.specs.declared.events.Bit.TheVariants.{Cell}
-use Rattle.bits_core.specs.declared.shapes.Shape.{Shape}
-use Rattle.bits_core.specs.Shape.{AllFit, capacity_of, modulus_of, width_of}
-use Rattle.bits_core.specs.Made.{Made, Write}
+use Rattle.ring_core.proofs.Common.{P, Bit, Cell, Shape, AllFit, capacity_of, modulus_of, width_of, Made, Write, LeavesRoom, LeavesRoomFor, Count, batch_phrase, IsCount}
 use Rattle.register_core.specs.Row.{RowWrite, writes_in}
 use Rattle.register_core.specs.Word.{digit, digit_writes, word_write}
 use Rattle.register_core.specs.ScanState.{scan_phrase, row_read_by}
-use Rattle.ring_core.specs.Counts.{LeavesRoom, LeavesRoomFor, Count, batch_phrase, IsCount}
 use Rattle.ring_core.specs.Puts.{Put, Stored, Full, stored_after, words_phrase, put_phrases, close_phrase, IsBatch}
 use Rattle.ring_core.proofs.Readings.Phrases.{NotFirst, same_words_by, scan_begins, same_scan, same_word_write, joined_two, no_scan}
 use Rattle.ring_core.proofs.CountRow.{batch_below, batch_first}

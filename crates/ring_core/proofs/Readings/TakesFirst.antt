@@ -1,12 +1,8 @@
 -- Takes and their end, from the first take on.
 use Rattle.std.proofs.Common.{◌≡◌, ℕ, true, List, [], ◌∷◌, ◌++◌, sym, ap, append-nil}
-use Rattle.bits_core.specs.declared.events.Side.TheVariants.{C}
-use Rattle.bits_core.specs.declared.events.Bit.TheVariants.{X}
-use Rattle.bits_core.specs.declared.shapes.Shape.{Shape}
+use Rattle.ring_core.proofs.Common.{C, X, Shape, Count, Take, End, Closed, take_phrases, end_phrase}
 use Rattle.bits_core.specs.Made.{Made, Read}
 use Rattle.register_core.specs.ScanState.{scan_phrase, row_read_by}
-use Rattle.ring_core.specs.Counts.{Count}
-use Rattle.ring_core.specs.Takes.{Take, End, Closed, take_phrases, end_phrase}
 
 -- the consumer's scan of a count
 abbrev pub scan : ℕ → List Made

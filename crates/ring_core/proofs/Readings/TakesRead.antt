@@ -1,17 +1,11 @@
 -- Equal events of complete calls of the consumer come from equal calls.
 use Rattle.std.proofs.Common.{◌≡◌, ℕ, zero, suc, ◌%◌, ◌<◌, ◌≤◌, true, false, List, [], ◌∷◌, ◌++◌, length, refl, sym, ap, ap₂, subst, ◌∙◌, arith, append_assoc, append-nil, length-append}
-use Rattle.std.proofs.lemmas.List.{append_cancel_left}
-use Rattle.bits_core.specs.declared.events.Side.TheVariants.{C}
-use Rattle.bits_core.specs.declared.events.Bit.TheVariants.{X, Cell}
-use Rattle.bits_core.specs.declared.shapes.Shape.{Shape}
-use Rattle.bits_core.specs.Shape.{AllFit, capacity_of, width_of}
+use Rattle.ring_core.proofs.Common.{append_cancel_left, C, X, Cell, Shape, AllFit, capacity_of, width_of, Count, first_count, IsCount, batch_phrase, Tells}
 use Rattle.bits_core.specs.Made.{Made, Read}
 use Rattle.register_core.specs.Word.{digit, digit_reads, word_read}
 use Rattle.register_core.specs.ScanState.{row_read_by}
-use Rattle.ring_core.specs.Counts.{Count, first_count, IsCount, batch_phrase}
 use Rattle.ring_core.specs.Takes.{Take, Takes, End, Item, ItemAfterClose, Empty, Open, Closed, count_after, taken_count, words_read, items_phrase, take_phrase, take_phrases, end_phrase, take_program, SeesItems, SeesNone, IsTakeBatch, IsTake, AreTakes}
 use Rattle.ring_core.specs.Readings.{TakesAreRead, TakesAreFirst}
-use Rattle.ring_core.specs.Items.{Tells}
 use Rattle.ring_core.proofs.Readings.Phrases.{NotFirst, same_words_by, no_scan, same_scan, same_word_read, joined}
 use Rattle.ring_core.proofs.CountRow.{take_batch_below, batch_first, first_is_count, counted_is_count}
 use Rattle.ring_core.proofs.Readings.TakesFirst.{scan, calls_from, closed_first}

@@ -1,11 +1,8 @@
 -- Complete calls: all their items are put or taken, and are counted by count writes that have begun.
 use Rattle.std.proofs.Common.{◌≡◌, ℕ, zero, ◌+◌, ◌-◌, ◌≤◌, Bool, nat_lt, if◌then◌else◌, List, [], ◌∷◌, ◌++◌, length, refl, arith, length-append}
 use Rattle.std.proofs.lemmas.Bool.{cond-true, lt-ltb}
-use Rattle.bits_core.specs.declared.shapes.Shape.{Shape}
-use Rattle.bits_core.specs.Made.{Made}
-use Rattle.ring_core.specs.Counts.{Count, IsCount}
+use Rattle.ring_core.proofs.Common.{Shape, Made, Count, IsCount, events_in, all_taken}
 use Rattle.ring_core.specs.Takes.{Take, End, Item, ItemAfterClose, Empty, count_after, words_read, items_phrase, take_phrase, take_phrases, IsTakeBatch, AreTakes}
-use Rattle.ring_core.specs.Items.{events_in, all_taken}
 use Rattle.ring_core.proofs.EndedCounts.{take_before_count, taken_begun, takes_begun_is}
 use Rattle.ring_core.specs.Whole.{WholePutsCount, WholeTakesCount}
 use Rattle.ring_core.proofs.CountRow.{batch_below, take_batch_below, first_is_count, counted_is_count, batch_long}

@@ -1,17 +1,12 @@
 -- What one of a side's own events records of its calls.
 use Rattle.std.proofs.Common.{◌≡◌, ℕ, suc, ◌+◌, ◌-◌, ◌*◌, ◌<◌, ◌≤◌, Bool, true, false, List, [], ◌∷◌, length, arith, length-append, sym, subst}
 use Rattle.queue_calls.specs.Calls.{Event, PutBegin, CloseBegin, CloseEnd, TakeBegin, TakeEnd, Shut}
-use Rattle.bits_core.specs.declared.events.Side.TheVariants.{C}
-use Rattle.bits_core.specs.declared.events.Bit.TheVariants.{X}
-use Rattle.bits_core.specs.declared.shapes.Shape.{Shape}
+use Rattle.ring_core.proofs.Common.{C, X, Shape, Count, first_count, events_in, put_answer, put_told, take_answer, take_told, told_or_behind, Take, End, Open, Closed, Takes, end_phrase, take_phrase}
+use Rattle.ring_core.proofs.Common.{take_phrases, take_program, count_after}
 use Rattle.bits_core.specs.Made.{Read}
 use Rattle.register_core.specs.ScanState.{scan_phrase, row_read_by}
-use Rattle.ring_core.specs.Counts.{Count, first_count}
-use Rattle.ring_core.specs.Items.{events_in}
 use Rattle.ring_core.specs.Puts.{Put, Puts, close_phrase, put_phrase, put_phrases, put_program, stored_after}
-use Rattle.ring_core.specs.Recorded.{put_answer, put_told, take_answer, take_told, told_or_behind}
 use Rattle.ring_core.specs.RecordedByOne.{events_of_puts, events_of_takes, PutTells, PutsTellByOne, TakeTells, TakesTellByOne}
-use Rattle.ring_core.specs.Takes.{Take, End, Open, Closed, Takes, end_phrase, take_phrase, take_phrases, take_program, count_after}
 use Rattle.ring_core.proofs.Machines.Lengths.{length-scan}
 use Rattle.ring_core.proofs.Readings.Over.{puts_total, takes_total}
 use Rattle.ring_core.proofs.Recorded.TellsByOne.{place, first_told, between_told, last_told, told, Told, tells_so}

@@ -1,16 +1,9 @@
 -- The calls of each side after its first ones: what their own events record.
 use Rattle.std.proofs.Common.{◌≡◌, ℕ, suc, ◌+◌, ◌<◌, Bool, true, false, if◌then◌else◌, List, [], ◌∷◌, ◌++◌, length, refl, sym, ap, subst, ◌∙◌, arith, append_assoc, append-nil, length-append}
-use Rattle.std.proofs.lemmas.Bool.{lt-ltb, eq-eqb}
+use Rattle.ring_core.proofs.Common.{lt-ltb, eq-eqb, P, C, Shape, batch_of, take_batch_of, Count, first_count, Take, Item, ItemAfterClose, Empty, End, Takes, taken_after, count_after, take_phrase}
+use Rattle.ring_core.proofs.Common.{take_phrases, end_phrase, take_program, AreTakes, events_in, all_put, taken_of, call_told, told_or_behind, put_told, take_told, AreOffered, AreWanted}
 use Rattle.queue_calls.specs.Calls as calls
-use Rattle.bits_core.specs.declared.events.Side.TheVariants.{P, C}
-use Rattle.bits_core.specs.declared.shapes.Shape.{Shape}
-use Rattle.bits_core.specs.Shape.{batch_of, take_batch_of}
-use Rattle.ring_core.specs.Counts.{Count, first_count}
 use Rattle.ring_core.specs.Puts.{Put, Stored, Full, Puts, number_after, stored_after, put_phrase, put_phrases, ArePuts}
-use Rattle.ring_core.specs.Takes.{Take, Item, ItemAfterClose, Empty, End, Takes, taken_after, count_after, take_phrase, take_phrases, end_phrase, take_program, AreTakes}
-use Rattle.ring_core.specs.Items.{events_in, all_put, taken_of}
-use Rattle.ring_core.specs.Recorded.{call_told, told_or_behind, put_told, take_told, AreOffered}
-use Rattle.ring_core.specs.GoingOn.{AreWanted}
 use Rattle.ring_core.proofs.OverSpans.Spans.{Span, Passes, Stops, Asks, whole}
 use Rattle.ring_core.proofs.OverSpans.Timeline.{AllProper}
 use Rattle.ring_core.proofs.OverSpans.LookSpans.{look, put_looks, take_looks, span_of, spans, put_spans, take_spans}

@@ -1,13 +1,8 @@
 -- The recorded calls of small runs.
 use Rattle.std.proofs.Common.{◌≡◌, inl, ℕ, zero, suc, true, List, [], ◌∷◌, ◌++◌, take, refl, arith}
 use Rattle.queue_calls.specs.Calls.{PutBegin, PutEnd, CloseBegin, CloseEnd, TakeBegin, TakeEnd, Passed, Lacked, Shut}
-use Rattle.bits_core.specs.declared.events.Side.TheVariants.{P, C}
+use Rattle.ring_core.proofs.Common.{P, C, events_of, Puts, Stored, Full, put_program, take_program, recorded, AreOffered, AreWanted}
 use Rattle.bits_core.specs.declared.events.Event.{Event}
-use Rattle.bits_core.specs.Made.{events_of}
-use Rattle.ring_core.specs.Puts.{Puts, Stored, Full, put_program}
-use Rattle.ring_core.specs.Takes.{take_program}
-use Rattle.ring_core.specs.Recorded.{recorded, AreOffered}
-use Rattle.ring_core.specs.GoingOn.{AreWanted}
 use Rattle.ring_core.proofs.Examples.{one_cell, put_and_close, second_scan}
 
 -- two items are offered, of which one fits

@@ -3,17 +3,9 @@ use Rattle.std.proofs.Common.{◌≡◌, ◌⊎◌, ℕ, suc, ◌+◌, ◌<◌, 
 use Rattle.queue_calls.specs.Queue.{Capacity, exactly}
 use Rattle.queue_calls.specs.Calls as calls
 use Rattle.queue_calls.specs.Counting.{Kept, Counts, AreCounted}
-use Rattle.bits_core.specs.declared.events.Side.{Side}
-use Rattle.bits_core.specs.declared.events.Side.TheVariants.{P, C}
+use Rattle.ring_core.proofs.Common.{Side, P, C, Shape, capacity_of, same_side, subhistory, clock, IsPlaceOf, IsPrefix, first_count, Puts, put_phrases, close_phrase, put_program, FollowsPuts, Takes}
+use Rattle.ring_core.proofs.Common.{take_program, events_in, subhistory_has_place}
 use Rattle.bits_core.specs.declared.events.Event.{Event}
-use Rattle.bits_core.specs.declared.shapes.Shape.{Shape}
-use Rattle.bits_core.specs.Shape.{capacity_of}
-use Rattle.bits_core.specs.Bits.{same_side}
-use Rattle.bits_core.specs.Made.{subhistory, clock, IsPlaceOf, IsPrefix}
-use Rattle.ring_core.specs.Counts.{first_count}
-use Rattle.ring_core.specs.Puts.{Puts, put_phrases, close_phrase, put_program, FollowsPuts}
-use Rattle.ring_core.specs.Takes.{Takes, take_program}
-use Rattle.ring_core.specs.Items.{events_in}
 use Rattle.ring_core.proofs.OverSpans.Spans.{counts_begun, begun_items, ended_items}
 use Rattle.ring_core.proofs.OverSpans.LookSpans.{put_spans, take_spans}
 use Rattle.ring_core.proofs.OverSpans.Looks.{puts_items, takes_items}
@@ -22,7 +14,6 @@ use Rattle.ring_core.proofs.Machines.Following.{length-events}
 use Rattle.ring_core.proofs.HistoryClocks.{clock-yes, clock-no, clock-zero}
 use Rattle.ring_core.proofs.OwnEvents.{one_place, clock_within}
 use Rattle.ring_core.proofs.Recorded.RecordedStates.{before_close, PutAt, TakeAt}
-use Rattle.bits_core.proofs.LawLemmas.{subhistory_has_place}
 
 -- ---- the clocks
 

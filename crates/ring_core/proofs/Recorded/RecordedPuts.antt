@@ -1,25 +1,15 @@
 -- The next event of a run is one of the producer's: what it records can be counted.
 use Rattle.std.proofs.Common.{◌≡◌, inl, inr, ℕ, suc, ◌+◌, ◌-◌, ◌%◌, ◌<◌, ◌≤◌, true, false, List, [], ◌∷◌, ◌++◌, length, take, refl, sym, ap, ◌∙◌, arith, append_assoc, append-nil, length-append}
 use Rattle.std.proofs.lemmas.List.{length-take-le, take_all, append_cancel_left}
-use Rattle.std.proofs.Math.Seq.{take-append_seam}
-use Rattle.queue_calls.specs.Queue.{exactly}
+use Rattle.ring_core.proofs.Common.{take-append_seam, exactly, PutBegin, CloseBegin, CloseEnd, P, C, Shape, batch_of, capacity_of, modulus_of, subhistory, clock, IsPlaceOf, distance, Count}
+use Rattle.ring_core.proofs.Common.{first_count, Takes, events_in, IsRun, put_answer, put_told}
 use Rattle.queue_calls.specs.Calls as calls
-use Rattle.queue_calls.specs.Calls.{PutBegin, CloseBegin, CloseEnd}
 use Rattle.queue_calls.specs.Counting.{Kept, kept, without, EndsPut}
 use Rattle.queue_calls.proofs.Replies.{may_lack_more}
 use Rattle.queue_calls.specs.declared.turns.PutTurn.TheVariants.{Free, Offers, Closes}
-use Rattle.bits_core.specs.declared.events.Side.TheVariants.{P, C}
 use Rattle.bits_core.specs.declared.events.Event.{Event}
-use Rattle.bits_core.specs.declared.shapes.Shape.{Shape}
-use Rattle.bits_core.specs.Shape.{batch_of, capacity_of, modulus_of}
-use Rattle.bits_core.specs.Made.{subhistory, clock, IsPlaceOf}
 use Rattle.bits_core.proofs.OwnEvents.{by_case}
-use Rattle.ring_core.specs.Counts.{distance, Count, first_count}
 use Rattle.ring_core.specs.Puts.{Put, Stored, Full, Puts, stored_after, put_phrase, put_phrases, close_phrase, room_in}
-use Rattle.ring_core.specs.Takes.{Takes}
-use Rattle.ring_core.specs.Items.{events_in}
-use Rattle.ring_core.specs.RingLaw.{IsRun}
-use Rattle.ring_core.specs.Recorded.{put_answer, put_told}
 use Rattle.ring_core.proofs.OverSpans.Spans.{Passes, Stops, counts_ended}
 use Rattle.ring_core.proofs.OverSpans.LookSpans.{look, span_of, put_spans, take_spans}
 use Rattle.ring_core.proofs.Readings.Cuts.{at_most_or_above}

@@ -1,21 +1,11 @@
 -- The recorded calls of every run of the ring can be counted, one event after the other.
 use Rattle.std.proofs.Common.{◌≡◌, ◌⊎◌, inl, inr, ℕ, suc, ◌<◌, false, List, [], ◌∷◌, ◌++◌, refl, arith}
-use Rattle.queue_calls.specs.Queue.{exactly}
+use Rattle.ring_core.proofs.Common.{exactly, Kept, kept, AreCounted, Side, P, C, Shape, capacity_of, first_count, Puts, Takes, IsRun, AreWanted}
 use Rattle.queue_calls.specs.Calls as calls
-use Rattle.queue_calls.specs.Counting.{Kept, kept, AreCounted}
 use Rattle.queue_calls.specs.declared.turns.PutTurn.TheVariants.{Free}
 use Rattle.queue_calls.specs.declared.turns.TakeTurn.TheVariants.{Rests}
-use Rattle.bits_core.specs.declared.events.Side.{Side}
-use Rattle.bits_core.specs.declared.events.Side.TheVariants.{P, C}
 use Rattle.bits_core.specs.declared.events.Event.{Event}
-use Rattle.bits_core.specs.declared.shapes.Shape.{Shape}
-use Rattle.bits_core.specs.Shape.{capacity_of}
-use Rattle.ring_core.specs.Counts.{first_count}
-use Rattle.ring_core.specs.Puts.{Puts}
-use Rattle.ring_core.specs.Takes.{Takes}
-use Rattle.ring_core.specs.RingLaw.{IsRun}
 use Rattle.ring_core.specs.Recorded.{put_told, take_told, by_side, calls_told, recorded, AreOffered}
-use Rattle.ring_core.specs.GoingOn.{AreWanted}
 use Rattle.ring_core.proofs.OverSpans.RingOfSpans.{LawOfSpans}
 use Rattle.ring_core.proofs.Recorded.RecordedCalls.{puts_first, takes_first}
 use Rattle.ring_core.proofs.Recorded.RecordedMoments.{Now, move_on}

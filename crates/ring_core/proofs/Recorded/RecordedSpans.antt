@@ -1,11 +1,10 @@
 -- The spans of a side after its first ones: what had begun and ended there, and within the next one.
 use Rattle.std.proofs.Common.{◌≡◌, inl, inr, ℕ, ◌+◌, ◌-◌, ◌≤◌, List, ◌∷◌, ◌++◌, length, refl, sym, ap, ◌∙◌, arith, append_assoc, append-nil, length-append}
-use Rattle.bits_core.specs.Made.{IsPrefix}
+use Rattle.ring_core.proofs.Common.{IsPrefix, nat_tests}
 use Rattle.ring_core.proofs.OverSpans.Spans.{Span, counts, items_of, before_count, whole, counts_begun, counts_ended, begun_items, ended_items, IsSpanAt}
 use Rattle.ring_core.proofs.OverSpans.Timeline.{AllProper, begun_items_past, begun_items_first, ended_items_cons, length-begun_items, length-ended_items, none_begun, if_true}
 use Rattle.ring_core.proofs.Readings.Cuts.{at_most_or_above}
 use Rattle.ring_core.proofs.OverSpans.CallSpans.{stands_at}
-use Rattle.std.proofs.lemmas.Bool.Decides.{nat_tests}
 
 -- after the first of all spans, with their number of events and their items, come the rest
 pub record SpansBehind (most : ℕ) (all : List Span) (start : ℕ) (passed : List ℕ) (rest : List Span) : Type 0 where

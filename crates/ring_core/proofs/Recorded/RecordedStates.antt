@@ -5,16 +5,10 @@ use Rattle.queue_calls.specs.declared.turns.PutTurn.{PutTurn}
 use Rattle.queue_calls.specs.declared.turns.PutTurn.TheVariants.{Free, Offers, Closes}
 use Rattle.queue_calls.specs.declared.turns.TakeTurn.{TakeTurn}
 use Rattle.queue_calls.specs.declared.turns.TakeTurn.TheVariants.{Rests, Waits}
-use Rattle.bits_core.specs.declared.events.Side.TheVariants.{P, C}
+use Rattle.ring_core.proofs.Common.{P, C, Shape, batch_of, capacity_of, modulus_of, take_batch_of, subhistory, IsPrefix, Count, first_count, Take, End, Closed, Takes, take_program, AreTakes, IsTakeOf}
+use Rattle.ring_core.proofs.Common.{events_in, all_put, taken_of}
 use Rattle.bits_core.specs.declared.events.Event.{Event}
-use Rattle.bits_core.specs.declared.shapes.Shape.{Shape}
-use Rattle.bits_core.specs.Shape.{batch_of, capacity_of, modulus_of, take_batch_of}
-use Rattle.bits_core.specs.Made.{subhistory, IsPrefix}
-use Rattle.ring_core.specs.Counts.{Count, first_count}
 use Rattle.ring_core.specs.Puts.{Put, Stored, Full, Puts, put_phrases, IsPutOf, room_in}
-use Rattle.ring_core.specs.Takes.{Take, End, Closed, Takes, take_program, AreTakes}
-use Rattle.ring_core.specs.ConsumerCalls.{IsTakeOf}
-use Rattle.ring_core.specs.Items.{events_in, all_put, taken_of}
 use Rattle.ring_core.proofs.OverSpans.Spans.{Passes, Stops, counts_begun, counts_ended, begun_items, ended_items}
 use Rattle.ring_core.proofs.OverSpans.LookSpans.{look, take_looks, span_of, spans, put_spans, take_spans}
 use Rattle.ring_core.proofs.OverSpans.Looks.{proper_takes}

@@ -1,27 +1,18 @@
 -- The next event of a run is one of the consumer's: what it records can be counted.
 use Rattle.std.proofs.Common.{◌≡◌, ◌⊎◌, inl, inr, ℕ, suc, ◌+◌, ◌-◌, ◌%◌, ◌<◌, ◌≤◌, Bool, true, false, List, [], ◌∷◌, ◌++◌, length, drop, refl, sym, ap, subst, ◌∙◌, arith, append_assoc, append-nil, length-append}
-use Rattle.std.proofs.lemmas.List.{append_cancel_left}
+use Rattle.ring_core.proofs.Common.{append_cancel_left, exactly, TakeBegin, TakeEnd, Shut, P, C, Shape, batch_of, capacity_of, modulus_of, take_batch_of, distance, Count, first_count, Puts, Take}
+use Rattle.ring_core.proofs.Common.{Item, ItemAfterClose, Empty, End, Open, Closed, Takes, count_after, end_phrase, take_program, events_in, all_put, taken_of, Tells, IsRun, take_answer, take_told}
+use Rattle.ring_core.proofs.Common.{subhistory_has_place}
 use Rattle.std.proofs.Math.Seq.{drop-append_seam}
-use Rattle.queue_calls.specs.Queue.{exactly}
 use Rattle.queue_calls.specs.Calls as calls
-use Rattle.queue_calls.specs.Calls.{TakeBegin, TakeEnd, Shut}
 use Rattle.queue_calls.specs.State.{offered_by, has_closed}
 use Rattle.queue_calls.specs.Counting.{Kept, kept, EndsTake}
 use Rattle.queue_calls.proofs.Replies.{found_fewer}
 use Rattle.queue_calls.specs.declared.turns.TakeTurn.{TakeTurn}
 use Rattle.queue_calls.specs.declared.turns.TakeTurn.TheVariants.{Rests, Waits}
-use Rattle.bits_core.specs.declared.events.Side.TheVariants.{P, C}
 use Rattle.bits_core.specs.declared.events.Event.{Event}
-use Rattle.bits_core.specs.declared.shapes.Shape.{Shape}
-use Rattle.bits_core.specs.Shape.{batch_of, capacity_of, modulus_of, take_batch_of}
 use Rattle.bits_core.specs.Made.{subhistory, clock, place_of, IsPlaceOf}
 use Rattle.register_core.specs.ScanState.{row_read_by}
-use Rattle.ring_core.specs.Counts.{distance, Count, first_count}
-use Rattle.ring_core.specs.Puts.{Puts}
-use Rattle.ring_core.specs.Takes.{Take, Item, ItemAfterClose, Empty, End, Open, Closed, Takes, count_after, end_phrase, take_program}
-use Rattle.ring_core.specs.Items.{events_in, all_put, taken_of, Tells}
-use Rattle.ring_core.specs.RingLaw.{IsRun}
-use Rattle.ring_core.specs.Recorded.{take_answer, take_told}
 use Rattle.ring_core.proofs.OverSpans.Spans.{Span, Passes, Asks, whole, counts_ended, ended_items, IsSpanAt}
 use Rattle.ring_core.proofs.OverSpans.LookSpans.{look, take_looks, span_of, spans, put_spans, take_spans}
 use Rattle.ring_core.proofs.OverSpans.Looks.{proper_puts, proper_takes, takes_items}
@@ -38,7 +29,6 @@ use Rattle.ring_core.proofs.Recorded.RecordedCalls.{told_first, TakesBehind, tak
 use Rattle.ring_core.proofs.Recorded.RecordedStates.{before_close, IsClosing, TakeAt, TakeRuns, TakeEnds, put_view}
 use Rattle.ring_core.proofs.Recorded.RecordedMoments.{at_p, at_q, past_q, next_q, within_at, prefix_at, Now, Stepped, by_events, place_here}
 use Rattle.ring_core.proofs.Recorded.TellsByOne.{between_told, last_told}
-use Rattle.bits_core.proofs.LawLemmas.{subhistory_has_place}
 use Rattle.ring_core.proofs.Machines.Following.{length-events}
 
 -- a take has at least two events

@@ -1,10 +1,8 @@
 -- What one event records of calls that follow one another, by those of them that are over before it and with it.
 use Rattle.std.proofs.Common.{◌≡◌, ◌⊎◌, ℕ, suc, ◌+◌, ◌-◌, ◌<◌, ◌≤◌, Bool, false, nat_eq, if◌then◌else◌, List, [], ◌∷◌, ◌++◌, length, refl, ap, ◌∙◌, arith}
-use Rattle.std.proofs.lemmas.Bool.Decides.{nat_tests}
-use Rattle.std.proofs.lemmas.Bool.{le-leb, lt-leb, lt-ltb, le-ltb, eq-eqb}
+use Rattle.ring_core.proofs.Common.{nat_tests, le-leb, lt-leb, lt-ltb, le-ltb, eq-eqb, call_told, told_or_behind}
 use Rattle.queue_calls.specs.Calls.{Event}
 use Rattle.ring_core.specs.Over.{over}
-use Rattle.ring_core.specs.Recorded.{call_told, told_or_behind}
 use Rattle.ring_core.proofs.Readings.Cuts.{at_most_or_above}
 use Rattle.ring_core.proofs.Readings.Over.{total}
 

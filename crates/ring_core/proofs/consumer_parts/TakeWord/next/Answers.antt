@@ -1,7 +1,6 @@
 use Rattle.std.proofs.Common.{Some, refl}
-use Rattle.ring_core.specs.declared.consumers.Stage.TheVariants.{Loading}
+use Rattle.ring_core.proofs.Common.{Loading, ConsumerState, is_taking}
 use Rattle.ring_core.specs.contracts.consumer_parts.TakeWord.{the_view}
-use Rattle.ring_core.specs.ConsumerState.{ConsumerState, is_taking}
 use Rattle.ring_core.proofs.Machines.ConsumerInvariant.{at_stage}
 use Rattle.ring_core.proofs.Machines.ConsumerNext.{next_word, going_on, going_bounded}
 use Rattle.ring_core.proofs.consumer_parts.TakeWord.next.Goals as goal

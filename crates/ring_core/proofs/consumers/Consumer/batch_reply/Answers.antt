@@ -1,6 +1,5 @@
 use Rattle.std.proofs.Common.{◌≡◌, Some, sym, ap, subst, ◌∙◌}
-use Rattle.ring_core.specs.ConsumerState.{ConsumerState, is_taking}
-use Rattle.ring_core.specs.ConsumerCalls.{take_batch_reply, IsBatchReplyToTake}
+use Rattle.ring_core.proofs.Common.{ConsumerState, is_taking, take_batch_reply, IsBatchReplyToTake}
 use Rattle.ring_core.proofs.Machines.TakeCalls.{batched-reply}
 use Rattle.ring_core.proofs.consumers.Consumer.batch_reply.Goals as goal
 

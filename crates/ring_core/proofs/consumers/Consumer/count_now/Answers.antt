@@ -1,9 +1,7 @@
 use Rattle.std.proofs.Common.{◌≡◌, ℕ, ◌+◌, ◌%◌, ◌∷◌, [], ◌++◌, length, ap, ◌∙◌, subst, arith}
-use Rattle.bits_core.specs.Shape.{modulus_of}
-use Rattle.register_core.specs.UnaryState.{UnaryState, UnaryStands}
+use Rattle.ring_core.proofs.Common.{modulus_of, UnaryState, UnaryStands, ConsumerState, IsBetweenWords, IsConsumer}
 use Rattle.ring_core.specs.declared.consumers.Stage.TheVariants.{Loading, Counting}
 use Rattle.ring_core.specs.contracts.consumers.Consumer.{the_view}
-use Rattle.ring_core.specs.ConsumerState.{ConsumerState, IsBetweenWords, IsConsumer}
 use Rattle.ring_core.proofs.Machines.Batches.{taken_so}
 use Rattle.ring_core.proofs.CountRow.{take_batch_below}
 use Rattle.ring_core.proofs.Machines.ConsumerInvariant.{at_stage, now_keeps, first_bit}

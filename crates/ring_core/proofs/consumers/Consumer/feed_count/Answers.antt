@@ -1,8 +1,7 @@
 use Rattle.std.proofs.Common.{Some, ◌+◌, ◌%◌, ap, arith, ◌∙◌}
-use Rattle.bits_core.specs.declared.events.Side.TheVariants.{C}
+use Rattle.ring_core.proofs.Common.{C, ConsumerState}
 use Rattle.ring_core.specs.declared.consumers.Stage.TheVariants.{Counting}
 use Rattle.ring_core.specs.contracts.consumers.Consumer.{the_view}
-use Rattle.ring_core.specs.ConsumerState.{ConsumerState}
 use Rattle.ring_core.proofs.CountRow.{take_batch_below}
 use Rattle.ring_core.proofs.Machines.MachineParts.{none_next, row_whole}
 use Rattle.ring_core.proofs.Machines.ConsumerInvariant.{at_stage}

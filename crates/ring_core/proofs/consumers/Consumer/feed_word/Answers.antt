@@ -1,9 +1,6 @@
 use Rattle.std.proofs.Common.{◌≡◌, ℕ, ◌+◌, ◌%◌, [], ◌∷◌, ◌++◌, length, take, ap, ◌∙◌, subst, arith, length-append}
-use Rattle.bits_core.specs.Shape.{modulus_of}
-use Rattle.register_core.specs.UnaryState.{UnaryState, UnaryStands}
-use Rattle.ring_core.specs.declared.consumers.Stage.TheVariants.{Loading}
+use Rattle.ring_core.proofs.Common.{modulus_of, UnaryState, UnaryStands, Loading, ConsumerState}
 use Rattle.ring_core.specs.contracts.consumers.Consumer.{the_view}
-use Rattle.ring_core.specs.ConsumerState.{ConsumerState}
 use Rattle.ring_core.proofs.Machines.Batches.{taken_so}
 use Rattle.ring_core.proofs.CountRow.{take_batch_below}
 use Rattle.ring_core.proofs.Machines.ConsumerInvariant.{at_stage, word_keeps, word_whole}

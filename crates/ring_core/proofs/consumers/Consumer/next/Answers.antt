@@ -1,10 +1,8 @@
 use Rattle.std.proofs.Common.{◌+◌, Some, refl, sym, ap, ◌∙◌}
-use Rattle.bits_core.specs.declared.events.Side.TheVariants.{C}
-use Rattle.bits_core.specs.declared.events.Bit.TheVariants.{X}
+use Rattle.ring_core.proofs.Common.{C, X, ConsumerState, consumer_due_at}
 use Rattle.bits_core.specs.declared.events.Access.TheVariants.{Read}
 use Rattle.ring_core.specs.declared.consumers.Stage.TheVariants.{Checking, Loading, Counting}
 use Rattle.ring_core.specs.contracts.consumers.Consumer.{the_view}
-use Rattle.ring_core.specs.ConsumerState.{ConsumerState, consumer_due_at}
 use Rattle.ring_core.proofs.Machines.ConsumerInvariant.{at_stage}
 use Rattle.ring_core.proofs.Machines.NextParts.{scan_right, row_right, row_below}
 use Rattle.ring_core.proofs.Machines.ConsumerNext.{next_check, next_word, next_count_write, word_right, told_next}

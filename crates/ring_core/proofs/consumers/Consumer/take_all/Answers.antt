@@ -1,7 +1,6 @@
 use Rattle.std.proofs.Common.{◌≤◌, rules, arith}
 use Rattle.ring_core.specs.contracts.consumers.Consumer.{the_view}
-use Rattle.ring_core.specs.ConsumerState.{ConsumerState}
-use Rattle.bits_core.specs.Shape.{take_batch_of}
+use Rattle.ring_core.proofs.Common.{ConsumerState, take_batch_of}
 use Rattle.ring_core.proofs.consumers.Consumer.take_all.Goals as goal
 
 pub invariant_of-self-else-self : goal.invariant_of-self-else-self

@@ -1,8 +1,7 @@
 use Rattle.std.proofs.Common.{false, ap, ◌∙◌}
-use Rattle.register_core.specs.ScanState.{ScanState}
+use Rattle.ring_core.proofs.Common.{ScanState, ProducerState}
 use Rattle.ring_core.specs.declared.producers.Stage.TheVariants.{Scanning}
 use Rattle.ring_core.specs.contracts.producer_parts.PutScan.{the_view}
-use Rattle.ring_core.specs.ProducerState.{ProducerState}
 use Rattle.ring_core.proofs.Machines.ProducerInvariant.{at_stage, scan_keeps}
 use Rattle.ring_core.proofs.producer_parts.PutScan.zero.Goals as goal
 

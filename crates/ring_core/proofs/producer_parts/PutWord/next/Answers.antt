@@ -1,7 +1,6 @@
 use Rattle.std.proofs.Common.{Some, refl}
-use Rattle.ring_core.specs.declared.producers.Stage.TheVariants.{Storing}
+use Rattle.ring_core.proofs.Common.{Storing, ProducerState, call_of}
 use Rattle.ring_core.specs.contracts.producer_parts.PutWord.{the_view}
-use Rattle.ring_core.specs.ProducerState.{ProducerState, call_of}
 use Rattle.ring_core.proofs.Machines.ProducerInvariant.{at_stage}
 use Rattle.ring_core.proofs.Machines.ProducerNext.{next_word, going_on, going_bounded}
 use Rattle.ring_core.proofs.producer_parts.PutWord.next.Goals as goal

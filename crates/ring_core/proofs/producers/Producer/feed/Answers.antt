@@ -1,6 +1,5 @@
-use Rattle.ring_core.specs.declared.producers.Stage.TheVariants.{Closing}
+use Rattle.ring_core.proofs.Common.{Closing, ProducerState}
 use Rattle.ring_core.specs.contracts.producers.Producer.{the_view}
-use Rattle.ring_core.specs.ProducerState.{ProducerState}
 use Rattle.ring_core.proofs.Machines.ProducerInvariant.{at_stage}
 use Rattle.ring_core.proofs.Machines.ProducerMoves.{close_over}
 use Rattle.ring_core.proofs.producers.Producer.feed.Goals as goal

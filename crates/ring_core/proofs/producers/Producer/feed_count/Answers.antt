@@ -1,8 +1,7 @@
 use Rattle.std.proofs.Common.{◌+◌, ◌%◌, ap, arith, ◌∙◌}
-use Rattle.bits_core.specs.declared.events.Side.TheVariants.{P}
+use Rattle.ring_core.proofs.Common.{P, ProducerState}
 use Rattle.ring_core.specs.declared.producers.Stage.TheVariants.{Counting}
 use Rattle.ring_core.specs.contracts.producers.Producer.{the_view}
-use Rattle.ring_core.specs.ProducerState.{ProducerState}
 use Rattle.ring_core.proofs.Machines.MachineParts.{none_next, row_whole}
 use Rattle.ring_core.proofs.Machines.ProducerInvariant.{at_stage}
 use Rattle.ring_core.proofs.Machines.ProducerMoves.{count_on, count_over}

@@ -1,9 +1,7 @@
 use Rattle.std.proofs.Common.{◌≡◌, ◌⊎◌, ◌+◌, length, subst, sym, arith}
-use Rattle.bits_core.specs.Shape.{capacity_of, modulus_of}
-use Rattle.ring_core.specs.Counts.{distance}
+use Rattle.ring_core.proofs.Common.{capacity_of, modulus_of, distance, ProducerState}
 use Rattle.ring_core.proofs.Machines.Batches.{taken_so}
 use Rattle.ring_core.specs.contracts.producers.Producer.{the_view}
-use Rattle.ring_core.specs.ProducerState.{ProducerState}
 use Rattle.ring_core.proofs.Machines.MachineParts.{no_value, denied}
 use Rattle.ring_core.proofs.Machines.ProducerInvariant.{scan_keeps, has_given}
 use Rattle.ring_core.proofs.Machines.ProducerMoves.{scan_on, scan_room, scan_full}

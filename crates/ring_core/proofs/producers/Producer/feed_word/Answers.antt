@@ -1,10 +1,6 @@
-use Rattle.std.specs.Prelude.{slice_index_or}
+use Rattle.ring_core.proofs.Common.{slice_index_or, modulus_of, UnaryState, UnaryStands, Storing, ProducerState}
 use Rattle.std.proofs.Common.{◌≡◌, ℕ, ◌+◌, ◌%◌, [], ◌∷◌, ◌++◌, ap, ◌∙◌, subst, arith}
-use Rattle.bits_core.specs.Shape.{modulus_of}
-use Rattle.register_core.specs.UnaryState.{UnaryState, UnaryStands}
-use Rattle.ring_core.specs.declared.producers.Stage.TheVariants.{Storing}
 use Rattle.ring_core.specs.contracts.producers.Producer.{the_view}
-use Rattle.ring_core.specs.ProducerState.{ProducerState}
 use Rattle.ring_core.proofs.Machines.MachineParts.{none_next}
 use Rattle.ring_core.proofs.Machines.Batches.{taken_at, fits_at}
 use Rattle.ring_core.proofs.Machines.ProducerInvariant.{at_stage, next_so, word_keeps, word_whole}

@@ -1,8 +1,7 @@
 use Rattle.std.proofs.Common.{rules, ◌+◌, sym, ap, ◌∙◌}
-use Rattle.bits_core.specs.declared.events.Side.TheVariants.{P}
+use Rattle.ring_core.proofs.Common.{P, ProducerState, producer_due_at}
 use Rattle.ring_core.specs.declared.producers.Stage.TheVariants.{Scanning, Storing, Counting}
 use Rattle.ring_core.specs.contracts.producers.Producer.{the_view}
-use Rattle.ring_core.specs.ProducerState.{ProducerState, producer_due_at}
 use Rattle.ring_core.proofs.Machines.ProducerInvariant.{at_stage}
 use Rattle.ring_core.proofs.Machines.NextParts.{scan_right, row_right, row_below}
 use Rattle.ring_core.proofs.Machines.ProducerNext.{next_scan, next_word, next_count_write, word_right, told_next}
