@@ -27,10 +27,3 @@ loop-i-preserved c =
       take_shape = c.read.ensures.take_shape ∙ l.take_shape;
       stands = subst (λ s. BothStand s new.puts new.takes (take (c.loop-i.i + 1) h)) l.put_shape (subst (BothStand r.puts.shape new.puts new.takes) (sym (take_more h c.loop-i.i _ c.loop-i-test.true)) on);
     }
-
-pub returns-clause-stands : goal.returns-clause-stands
-returns-clause-stands c =
-    let h : List Event = c.args.events.now in
-    let r = c.loop-i.readers in
-    let end : c.loop-i.i ≡ length h = omega arith in
-    subst (BothStand c.args.shape.now r.puts r.takes) (ap (λ k. take k h) end ∙ take-length h) c.loop-i.invariant.stands

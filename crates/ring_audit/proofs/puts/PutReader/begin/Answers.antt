@@ -10,14 +10,6 @@ use Rattle.ring_audit.specs.PutReading.{PutReading, HasReadPut, IsReaderAt}
 use Rattle.ring_audit.proofs.PutReads.{at_stage, no_more}
 use Rattle.ring_audit.proofs.puts.PutReader.begin.Goals as goal
 
-pub returns-in-Closing-clause-read : goal.returns-in-Closing-clause-read
-returns-in-Closing-clause-read c es items stored st of_puts =
-    let r : PutReading = the_view c.self.inside in
-    let none : r.open_access ≡ None = ap (λ (z : PutReading). z.open_access) c.self.view_is ∙ c.requires in
-    let at : IsReaderAt Closing r = at_stage r Closing c.self.invariant c.in-Closing.is in
-    let clash : Some (begins.Write X true) ≡ None = sym at ∙ none in
-    absurd (cc)
-
 pub returns-in-Closed-clause-read : goal.returns-in-Closed-clause-read
 returns-in-Closed-clause-read c =
     let now : PutReading = c.args.self.now in

@@ -60,14 +60,6 @@ returns-in-Counting-clause-only c =
     (λ es items stored a st others. no_bit r.shape r es items stored a st none c.in-Counting.is c.self.invariant.row_side at.0
     (λ due. others.2 (c.only-in-Counting.ensures.third ∙ c.opening-in-Counting.ensures.some a (c.next-in-Counting.ensures.due ∙ due))))
 
-pub returns-in-Closing-clause-only : goal.returns-in-Closing-clause-only
-returns-in-Closing-clause-only c es items stored a st others of_puts =
-    let r : PutReading = the_view c.self.inside in
-    let none : r.open_access ≡ None = ap (λ (z : PutReading). z.open_access) c.self.view_is ∙ c.requires in
-    let at : IsReaderAt Closing r = at_stage r Closing c.self.invariant c.in-Closing.is in
-    let clash : None ≡ Some _ = sym none ∙ at in
-    absurd (cc)
-
 pub returns-in-Closed-clause-only : goal.returns-in-Closed-clause-only
 returns-in-Closed-clause-only c =
     let r : PutReading = the_view c.self.inside in

@@ -40,11 +40,3 @@ returns-in-None-clause-only c es items access st wrong of_takes =
     (λ none. c.next-in-None.ensures.rest st.calls st.made stands none)
     (λ taking ends. wants_most p c.take_all.new.self (Some Closed) c.self.inside.most c.take_all.ensures.begun c.take_all.ensures.refused idle taking ∙ most)
     (taking_or_told p c.take_all.new.self (Some Closed) c.self.inside.most c.take_all.ensures.begun c.take_all.ensures.refused) wrong of_takes
-
-pub returns-in-None-clause-stands : goal.returns-in-None-clause-stands
-returns-in-None-clause-stands c =
-    let p = c.self.inside.consumer in
-    let new : TakeReading = record { consumer = c.take_all.new.self; open_access = c.self.inside.open_access } in
-    subst (λ (r : TakeReading). (es : List Event) (items : List ℕ) → TakesStand r.consumer.shape r es items → TakesStand r.consumer.shape new es items) c.self.view_is
-    (begun_stands p c.take_all.new.self c.self.inside.open_access (Some Closed) c.self.inside.most c.take_all.ensures.begun c.take_all.ensures.refused c.self.invariant.1 c.take_all.ensures.shape
-    (λ calls made stands. (c.in-None.ensures.rest calls made stands refl).0) c.take_all.ensures.stands)
