@@ -25,8 +25,7 @@ one_found :
 one_found shape h put taken put' taken' told told' f g =
     let same_put : put ≡ put' = f.put_is ∙ items_put_are_read shape h f.puts g.puts f.run.puts_follow g.run.puts_follow ∙ sym g.put_is in
     let (there, on) = items_taken_are_read shape h f.takes g.takes f.run.takes_follow g.run.takes_follow in
-    let (back, on') = items_taken_are_read shape h g.takes f.takes g.run.takes_follow f.run.takes_follow in
-    grind (arith, same_truth)
+    grind (arith, items_taken_are_read, same_truth)
 
 -- ---- the place and its kind
 

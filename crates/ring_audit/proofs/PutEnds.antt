@@ -185,11 +185,8 @@ scanning_put shape r es items stored st stage (idle, scans, some, due) =
 one_more : (shape : Shape) (n seen room : ℕ) (stored : List ℕ) (item : ℕ) → IsMost shape n seen (length stored + room) → 0 < room → AllFit shape stored → item < 2 ^ width_of shape →
     IsPut shape n (Stored seen (stored ++ item ∷ []))
 one_more shape n seen room stored item may some fit fits =
-    let long : length (stored ++ item ∷ []) ≡ length stored + 1 = length-append stored (item ∷ []) in (
-      may.below,
-      omega (arith, may.room, long, some),
-      record { some = omega (arith, long); few = omega (arith, may.few, long, some); fit = fit-push shape stored item fit fits },
-    )
+    let long : length (stored ++ item ∷ []) ≡ length stored + 1 = length-append stored (item ∷ []) in
+    grind (arith, fit-push)
 
 -- its accesses, with the last word in two parts
 storing_phrase :

@@ -48,9 +48,7 @@ pub zero_at_last :
 zero_at_last shape r es items stored a st some scans due last of_puts =
     let (rest, whole) = readers.answered_next P es st.made (put_program shape of_puts.0) r.open_access a false st.events_are some of_puts.2 in
     let a_is : a ≡ begins.Read (row_read_by P r.scan.zeros) = same_open (due_scan r.scan) a _ due (scan_due P (modulus_of shape) r.scan scans) in
-    let clash : false ≡ true =
-    last_reads_are_one_puts shape of_puts.0 of_puts.1 st.made r.scan.zeros false rest (whole ∙ ap (λ z. st.made ++ answered z false ∷ rest) a_is) (last.1 ∙ scans.modulus_is) in
-    absurd (cc)
+    grind (arith, last_reads_are_one_puts)
 
 -- ---- when it stops, by the stage
 

@@ -49,9 +49,7 @@ pub zero_at_last :
 zero_at_last shape r es items a st some due (i, reads, last) of_takes =
     let (rest, whole) = readers.answered_next C es st.made (take_program shape of_takes.0) r.open_access a false st.events_are some of_takes.2 in
     let a_is : a ≡ begins.Read (row_read_by C i) = same_open (due_take r.consumer) a _ due reads in
-    let clash : false ≡ true =
-    last_reads_are_one_takes shape of_takes.0 of_takes.1 st.made i false rest (whole ∙ ap (λ z. st.made ++ answered z false ∷ rest) a_is) last in
-    absurd (cc)
+    grind (arith, last_reads_are_one_takes)
 
 -- a take is under way while an access is due
 
@@ -87,8 +85,7 @@ no_words : (front made : List Made) (look : Finding) → made ≡ front ++ ((fin
 no_words front made look made_is (before, j, i, v, e) =
     let (scans, c, looks) = found_last look in
     let whole : made ≡ (front ++ scans) ++ Read (S c) true ∷ [] = grind (arith, append-nil, append_assoc) in
-    let last : Read (S c) true ≡ Read (Cell j i) v = last_same (front ++ scans) before (Read (S c) true) (Read (Cell j i) v) (sym whole ∙ e) in
-    absurd (cc)
+    grind (arith, last_same)
 
 first_digit : (w : ReaderState) (j : ℕ) → due_read w ≡ Some (begins.Read (Cell j 0)) → w.read ≡ 0
 first_digit w j due = grind (arith, nat_tests)

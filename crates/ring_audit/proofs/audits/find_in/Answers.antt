@@ -34,11 +34,7 @@ loop-i-init g c =
     }
 
 pub returns-in-Some-clause-found : goal.returns-in-Some-clause-found
-returns-in-Some-clause-found g c =
-    let shape = c.args.shape.now in
-    let h : List Event = c.args.events.now in
-    let l = c.loop-i.invariant in
-    break_of_bits shape h c.loop-i.i c.in-Some.kind (fault_is_first shape h c.loop-i.i _ c.in-Some.kind (slice_get-get_or h c.loop-i.i _ c.loop-i-test.true) l.heard.marks.lawful (c.in-Some.ensures.kind shape (take c.loop-i.i h) l.heard)) l.follow
+returns-in-Some-clause-found g c = search (arith, break_of_bits, fault_is_first, slice_get-get_or, take, c.loop-i.invariant, c.in-Some.ensures.kind)
 
 pub returns-in_err-on-clause-refused : goal.returns-in_err-on-clause-refused
 returns-in_err-on-clause-refused g c =
@@ -58,8 +54,7 @@ returns-in_err-on-clause-refused g c =
     let few : HasTooFewSlots shape h (g.S.Store.room c.loop-i.put) (g.S.Store.room c.loop-i.taken) =
     too_few_slots old.puts.shape shape h i _ new.puts new.takes new.counted (g.S.Store.room c.loop-i.put) (g.S.Store.room c.loop-i.taken) c.told-in-loop-i.result
     l.put_shape c.loop-i-test.true with_it (c.in_err-on.ensures.refused (take i h) st) found in
-    on_err c.from_residual.result
-    (subst (λ z. HasTooFewSlots shape h (g.S.Store.room c.read-on.new.put) z) (sym c.in_err-on.ensures.rooms.1) (subst (λ z. HasTooFewSlots shape h z (g.S.Store.room c.loop-i.taken)) (sym c.in_err-on.ensures.rooms.0) few))
+    grind (arith, on_err, c.in_err-on.ensures.rooms.1, c.in_err-on.ensures.rooms.0)
 
 pub returns-then-not-branch-clause-found : goal.returns-then-not-branch-clause-found
 returns-then-not-branch-clause-found g c =
@@ -113,10 +108,7 @@ returns-clause-found g c =
     let end : c.loop-i.i ≡ length h = omega (arith, c.loop-i-test.false, c.loop-i.auto.i-end) in
     let whole : take c.loop-i.i h ≡ h = ap (λ k. take k h) end ∙ take-length h in
     let old : ReadingStands r.puts.shape r h = subst (λ s. ReadingStands s r h) (sym l.put_shape) (subst (ReadingStands shape r) whole l.stands) in
-    let lawful : IsLawful shape h = subst (IsLawful shape) whole l.heard.marks.lawful in
-    let are : IsFound shape h (take r.counted put) taken c.told-told.result =
-    subst (λ s. IsFound s h (take r.counted put) taken c.told-told.result) l.put_shape (c.told-told.ensures.found h put taken (subst (λ s. IsLawful s h) (sym l.put_shape) lawful) old) in
-    subst (λ z. IsFound shape h (take r.counted put) z c.told-told.result) (sym (ap (λ k. take k taken) (ap length c.as_slice.ensures) ∙ take-length taken)) are
+    grind (arith, take, length, take-length, c.told-told.ensures.found, c.as_slice.ensures)
 
 pub returns-in_err-on-clause-few : goal.returns-in_err-on-clause-few
 returns-in_err-on-clause-few g c =

@@ -15,15 +15,4 @@ returns-then-not-read-clause-stands c e =
     stops_here r.puts.shape c.args.shape.now h c.loop-i.i _ e l.put_shape c.loop-i-test.true (c.read.ensures.stops c.if-not-read.true (take c.loop-i.i h) old)
 
 pub loop-i-preserved : goal.loop-i-preserved
-loop-i-preserved c =
-    let h : List Event = c.args.events.now in
-    let r = c.loop-i.readers in
-    let new = c.read.new.self in
-    let l = c.loop-i.invariant in
-    let old : BothStand r.puts.shape r.puts r.takes (take c.loop-i.i h) = subst (λ s. BothStand s r.puts r.takes (take c.loop-i.i h)) (sym l.put_shape) l.stands in
-    let on = c.read.ensures.goes_on c.if-not-read.false (take c.loop-i.i h) old in
-    record {
-      put_shape = c.read.ensures.put_shape ∙ l.put_shape;
-      take_shape = c.read.ensures.take_shape ∙ l.take_shape;
-      stands = subst (λ s. BothStand s new.puts new.takes (take (c.loop-i.i + 1) h)) l.put_shape (subst (BothStand r.puts.shape new.puts new.takes) (sym (take_more h c.loop-i.i _ c.loop-i-test.true)) on);
-    }
+loop-i-preserved c = grind (arith, take, take_more, c.loop-i.invariant, c.read.ensures.goes_on, c.if-not-read.false, c.read.ensures.put_shape, c.read.ensures.take_shape)

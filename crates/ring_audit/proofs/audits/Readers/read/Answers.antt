@@ -14,11 +14,7 @@ as_puts : (of shape : Shape) (old new : TakeReading) (e : Event) (step : TakeSte
 as_puts of shape old new e step same read = subst (λ s. HasReadTake s old new e step) same read
 
 pub returns-in_err-push-in-Stores-clause-refused : goal.returns-in_err-push-in-Stores-clause-refused
-returns-in_err-push-in-Stores-clause-refused g c =
-    let r = c.args.self.now in
-    on_err c.from_residual.result
-    (put_needs r.puts.shape r.puts c.read.new.self r.takes r.counted (g.S.Store.items c.args.put.now) (g.S.Store.items c.args.taken.now) c.args.event c.in-Stores.item
-    (g.S.Store.room c.args.put.now) (g.S.Store.room c.args.taken.now) c.in-P.is c.in-Stores.ensures.read c.in_err-push-in-Stores.ensures.full)
+returns-in_err-push-in-Stores-clause-refused g c = search (arith, on_err, put_needs, c.in-P.is, c.in-Stores.ensures.read, c.in_err-push-in-Stores.ensures.full)
 
 pub returns-in_err-push_all-in-Takes-clause-refused : goal.returns-in_err-push_all-in-Takes-clause-refused
 returns-in_err-push_all-in-Takes-clause-refused g c =
@@ -35,9 +31,7 @@ returns-in_err-push_all-in-Takes-clause-full g c =
     (g.S.Store.room c.args.taken.now) c.in-C.is (as_puts r.takes.consumer.shape r.puts.shape r.takes c.read-in-C.new.self c.args.event takes.Takes c.requires c.in-Takes.ensures.read) c.items.ensures c.in_err-push_all-in-Takes.ensures.full))
 
 pub returns-in-Stops-clause-stops : goal.returns-in-Stops-clause-stops
-returns-in-Stops-clause-stops g c f =
-    let r = c.args.self.now in
-    put_stops r.puts.shape (reading r.puts r.takes r.counted (g.S.Store.items c.args.put.now) (g.S.Store.items c.args.taken.now)) c.read.new.self c.args.event c.in-P.is c.in-Stops.ensures.read
+returns-in-Stops-clause-stops g c f = search (arith, put_stops, c.in-P.is, c.in-Stops.ensures.read)
 
 pub returns-in_ok-push-in-Stores-clause-goes_on : goal.returns-in_ok-push-in-Stores-clause-goes_on
 returns-in_ok-push-in-Stores-clause-goes_on g c f =
