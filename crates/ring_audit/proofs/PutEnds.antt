@@ -59,8 +59,7 @@ items-behind shape c (Stored seen items ∷ xs) ys t (some, all) l =
     let d : Count = stored_after shape c x in
     let here : ℕ = events_in (put_phrase shape c x) in
     let there : ℕ = events_in (put_phrases shape d xs) in
-    let both : events_in (put_phrases shape c (x ∷ xs)) ≡ here + there = events_in-append (put_phrase shape c x) (put_phrases shape d xs) in
-    grind (arith, events_in-append, begun_items, append_assoc, items-behind shape d xs ys (t - here) all (omega (arith, l, both)))
+    grind (arith, events_in-append, begun_items, append_assoc, items-behind shape d xs ys (t - here) all (omega (arith, l, events_in-append)))
 items-behind shape c (Full seen ∷ xs) ys t all l =
     grind (arith, events_in-append, items-behind shape c xs ys (t - (events_in (put_phrase shape c (Full seen)))) all (omega (arith, l, (events_in-append (put_phrase shape c (Full seen)) (put_phrases shape c xs)))))
 
@@ -119,8 +118,7 @@ by_puts shape r es items stored st closes part rest items_are made_is close_is o
     record {
       calls = closes_of st.puts closes;
       are = st.are;
-      events = subst (λ l. IsPrefix l (events_of P (front ++ close_phrase closes))) (sym st.events_are)
-          (subst (λ l. IsPrefix (events_of P st.made ++ open_events P r.open_access) (events_of P l)) (sym program) (begins_so st.made rest r.open_access opens));
+      events = grind (arith, begins_so st.made rest r.open_access opens);
       put = items_are ∙ sym (append-nil (all_put st.puts))
           ∙ sym (items-behind shape first_count st.puts [] (length es) (all_count shape first_count st.puts (first_is_count shape) st.are) reached)
           ∙ ap (λ l. items_put shape first_count l (length es)) (append-nil st.puts);
@@ -162,8 +160,7 @@ scanning_put shape r es items stored st stage (idle, scans, some, due) =
     let here : Made = Read (row_read_by P z) true in
     let below : z < modulus_of shape = subst (λ (s : Shape). z < modulus_of s) st.shape_is scans.below in
     let items_are : items ≡ all_put st.puts ++ [] = rests.items_are ∙ sym (append-nil (all_put st.puts)) in
-    let opens_here : (tail : List Made) → OpensRest r.open_access (here ∷ tail) = λ tail a e.
-    (here, tail, refl, same_open (due_scan r.scan) (begins.Read (row_read_by P z)) a (scan_due P (modulus_of r.shape) r.scan scans) (due a e)) in
+    let opens_here : (tail : List Made) → OpensRest r.open_access (here ∷ tail) = grind (arith, same_open, scan_due) in
     elim (room_or_none shape (c.number % modulus_of shape) z) [
       | inl room ↦
           let tail : List Made = words_phrase shape c.number (0 ∷ []) ++ batch_phrase shape P c (0 ∷ []) in
@@ -173,8 +170,7 @@ scanning_put shape r es items stored st stage (idle, scans, some, due) =
           (opens_here tail)
           (λ t e. late shape c z (0 ∷ []) t
           (let (low, high) = moment shape r es items stored st zeros t made_is e in
-          let long : length (accesses_before_count shape c.number z (0 ∷ [])) ≡ length (zeros ++ here ∷ []) + length (words_phrase shape c.number (0 ∷ [])) =
-          length-append (zeros ++ here ∷ []) (words_phrase shape c.number (0 ∷ [])) in
+          let long : length (accesses_before_count shape c.number z (0 ∷ [])) ≡ length (zeros ++ here ∷ []) + length (words_phrase shape c.number (0 ∷ [])) = grind (arith, length-append) in
           let scan_long : length (zeros ++ here ∷ []) ≡ length zeros + 1 = length-append zeros (here ∷ []) in
           omega (arith, high, long, scan_long)))
       | inr none ↦
@@ -297,8 +293,7 @@ counting_put shape r es items stored st stage side (due, opened) =
         let some : length (writes_in (row_bit P) s.writes) ≡ suc (length (writes_in (row_bit P) more)) = ap (λ ws. length (writes_in (row_bit P) ws)) is in
         omega (arith, e, long, parts, es_is, some)
     by_open s (Some a) o {t = t} e long parts =
-        let es_is : length es ≡ suc (2 * length st.made) =
-        ap length (st.events_are ∙ ap (λ z. events_of P st.made ++ open_events P z) o) ∙ length-append (events_of P st.made) (opening_event P a ∷ []) ∙ one_more_event (length-events P st.made) in
+        let es_is : length es ≡ suc (2 * length st.made) = grind (arith, length-append, length-events) in
         omega (arith, e, long, parts, es_is)
       where
         one_more_event : length (events_of P st.made) ≡ 2 * length st.made → length (events_of P st.made) + 1 ≡ suc (2 * length st.made)

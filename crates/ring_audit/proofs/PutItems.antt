@@ -88,7 +88,6 @@ written shape r es items stored st word a v w is cell stage fed goes =
     let digits : List Made = writes_in (Cell r.cell) (digit_writes r.word.value n) in
     let stands_on : ReaderStands word (reads ++ Read (Cell r.word.cell n) w ∷ []) = goes reads stands in
     let read_is : word.read ≡ suc n = ap (λ (z : ReaderState). z.read) fed in
-    let cell_is : word.cell ≡ r.word.cell = ap (λ (z : ReaderState). z.cell) fed in
     let both : digit_reads r.word.cell r.word.value n ++ Read (Cell r.word.cell n) w ∷ [] ≡ digit_reads r.word.cell word.value (suc n) = grind arith in
     let more : digit_writes r.word.value n ++ record { bit = n; value = w } ∷ [] ≡ digit_writes word.value word.read =
     more_digits r.word.cell r.word.value word.value n w both ∙ ap (digit_writes word.value) (sym read_is) in (

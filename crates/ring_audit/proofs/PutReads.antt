@@ -47,7 +47,6 @@ pub zero_at_last :
     IsScanning P (modulus_of shape) r.scan → due_scan r.scan ≡ Some a → LastIsDue r.scan → AreOfPuts shape (es ++ end_event P (answered a false) ∷ []) → ⊥
 zero_at_last shape r es items stored a st some scans due last of_puts =
     let (rest, whole) = readers.answered_next P es st.made (put_program shape of_puts.0) r.open_access a false st.events_are some of_puts.2 in
-    let a_is : a ≡ begins.Read (row_read_by P r.scan.zeros) = same_open (due_scan r.scan) a _ due (scan_due P (modulus_of shape) r.scan scans) in
     grind (arith, last_reads_are_one_puts)
 
 -- ---- when it stops, by the stage
@@ -137,8 +136,7 @@ no_word_nor_count shape r es items stored a st none stage side no_word no_count 
     elim (puts_go_on_words shape st.puts s.seen stored on.next on.rest st.are (has_room_then shape c.number s.seen (length stored + r.room) s.may) s.fit
     (subst (GoesBehind shape st.puts) (append_assoc scan words (on.next ∷ on.rest)) g)) [
       | inl (v, e, room, few) ↦
-          let most : suc (length stored) ≤ length stored + r.room = s.may.most (suc (length stored)) room few in
-          no_word v (omega (arith, most)) (sym is_a ∙ ap access_of e ∙ ap (λ j. begins.Write (Cell j 0) v) (sym s.cell_is))
+          no_word v (omega (arith, s.may.most (suc (length stored)) room few)) (sym is_a ∙ ap access_of e ∙ ap (λ j. begins.Write (Cell j 0) v) (sym s.cell_is))
       | inr (some, w, more, bits, e) ↦ grind (arith, first_due, count_due)
     ]
   where
@@ -167,8 +165,7 @@ no_digit shape r es items stored a st none stage below some wrong of_puts =
         let front : List Made = put_phrases shape first_count st.puts in
         let made_so : st.made ≡ front ++ (scan ++ (words ++ digits)) = grind arith in
         let g = goes_behind shape r es items stored st (scan ++ (words ++ digits)) (opening_event P a) made_so of_puts on in
-        let parts : (scan ++ (words ++ digits)) ++ on.next ∷ on.rest ≡ scan ++ (words ++ (digits ++ on.next ∷ on.rest)) =
-        append_assoc scan (words ++ digits) (on.next ∷ on.rest) ∙ ap (λ l. scan ++ l) (append_assoc words digits (on.next ∷ on.rest)) in
+        let parts : (scan ++ (words ++ digits)) ++ on.next ∷ on.rest ≡ scan ++ (words ++ (digits ++ on.next ∷ on.rest)) = grind (arith, append_assoc) in
         let (v, is) = puts_go_on_digits shape st.puts s.seen stored r.word.value read on.next on.rest st.are
         (has_room_then shape c.number s.seen (length stored + r.room) s.may) s.fit (omega (arith, below, e)) (subst (GoesBehind shape st.puts) parts g) in
         wrong v (sym is_a ∙ ap access_of is ∙ ap (λ j. begins.Write (Cell j (suc read)) v) (sym s.cell_is) ∙ ap (λ n. begins.Write (Cell r.cell n) v) (sym e))
@@ -211,8 +208,7 @@ no_more shape r es items stored a st none stage of_puts =
     let calls : Puts = record { puts = st.puts; closes = true } in
     let more : List Made = on.next ∷ on.rest in
     let whole : put_program shape calls ++ more ≡ put_program shape of_puts.0 = ap (λ l. l ++ more) (sym made_is) ∙ sym on.whole_is in
-    let events : events_of P (put_program shape calls) ++ events_of P more ≡ events_of P (put_program shape of_puts.0) =
-    sym (events_of-append P (put_program shape calls) more) ∙ ap (events_of P) whole in
+    let events : events_of P (put_program shape calls) ++ events_of P more ≡ events_of P (put_program shape of_puts.0) = grind (arith, events_of-append) in
     let all : calls ≡ of_puts.0 = (calls_are_first_puts shape calls of_puts.0 st.are of_puts.1 (events_of P more, events)).1 refl in
     absurd (omega (arith, ap length whole, length-append (put_program shape calls) more, ap (λ z. length (put_program shape z)) all))
 

@@ -70,11 +70,7 @@ begins_count shape r es items stored row a st none stage some side row_is asks =
       record {
         seen = s.seen;
         batch = stored;
-        is_put = (
-          s.may.below,
-          omega (arith, s.may.room),
-          record { some = some_items stored r.some s.some_is some; few = omega (arith, s.may.few); fit = s.fit },
-        );
+        is_put = grind (arith, some_items);
         next_is = s.next_is;
         cell_is = s.cell_is;
         writes = [];

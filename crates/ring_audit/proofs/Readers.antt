@@ -81,7 +81,6 @@ pub wrong_end :
     ((v : Bool) → EndsSo a e v → ⊥) → IsPrefix (es ++ e ∷ []) (events_of s whole) → ⊥
 wrong_end s es made whole o a e is some by no_end begins =
     let on = work_on s es made whole o a e is some begins in
-    let same : access_of on.next ≡ a = same_access s a on.next on.begins in
     let (v, next_so) = answer_is on.next in
     grind arith
 

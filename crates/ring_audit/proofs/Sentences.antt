@@ -19,10 +19,7 @@ sentence holds stays shape h put taken told f =
     let taken_so : items_taken shape first_count f.takes.takes (clock C h (length h)) ≡ taken = ap (items_taken shape first_count f.takes.takes) (clock_end C h) ∙ sym f.taken_is in
     record {
       prefix = subst (λ l. IsPrefix l put) taken_so (subst (IsPrefix (items_taken shape first_count f.takes.takes (clock C h (length h)))) put_so (law.prefix (length h)));
-      all = λ e.
-          (let at : IsTold shape f.takes (clock C h (length h)) = subst (IsTold shape f.takes) (sym (clock_end C h)) (f.told_is.0 e) in
-          let (all_put, all_taken, closes, behind) = law.closed (length h) (length h) at (omega arith) in
-          sym taken_so ∙ all_taken ∙ sym all_put ∙ put_so);
+      all = grind (arith, clock_end);
       stays = λ e h' put' taken' told' begins g. grind arith;
       law = λ puts takes run. holds shape h puts takes run;
     }

@@ -86,7 +86,6 @@ taken_at :
 taken_at shape p o es items None reply st is_due goes rests replied =
     let (idle, made_is) = rests refl in
     let answers : IsReplyToTake st.calls false reply = subst (λ b. IsReplyToTake st.calls b reply) idle replied in
-    let none : o ≡ None = no_open o is_due in
     let program : List Made = take_program shape st.calls in
     let es_is : es ≡ events_of C program = grind (arith, append-nil) in
     let long : length es ≡ events_in program = ap length es_is ∙ length-events C program in
@@ -97,8 +96,7 @@ taken_at shape p o es items None reply st is_due goes rests replied =
       are = subst (λ s. AreTakes s 0 st.calls.takes st.calls.end) st.shape_is st.stands.are;
       events = ([], append-nil es ∙ es_is);
       taken = st.items_are ∙ sym (taken_all shape first_count st.calls.takes (length es) reached);
-      told_is = subst (λ r. SaysTold (tells_closed r) (IsTold shape st.calls (length es))) (sym answers)
-          (told-over shape st.calls st.calls.end (length es) refl (omega (arith, long)));
+      told_is = grind (arith, told-over shape st.calls st.calls.end (length es) refl (omega (arith, long)));
     }
   where
     no_open : (z : Option Access) → ((a : Access) → z ≡ Some a → None ≡ Some a) → z ≡ None
@@ -115,13 +113,11 @@ taken_at shape p o es items (Some a) reply st is_due goes rests replied =
     let (part, front) = front_at p.stage p st.calls st.made st.stands.made_is in
     let front_is : st.made ≡ take_phrases shape first_count st.calls.takes ++ part = front ∙ ap (λ s. take_phrases s first_count st.calls.takes ++ part) st.shape_is in
     let reached : events_in (take_phrases shape first_count st.calls.takes) ≤ length es = grind (arith, length-append) in
-    let not_ended : length es < events_in (take_program shape more) =
-    omega (arith, upper, ap length program, length-append st.made (answered a true ∷ rest)) in
+    let not_ended : length es < events_in (take_program shape more) = search (arith, length-append) in
     record {
       calls = more;
       are = has.are;
-      events = subst (λ l. IsPrefix l (events_of C (take_program shape more))) (sym st.events_are)
-          (subst (λ l. IsPrefix (events_of C st.made ++ open_events C o) (events_of C l)) (sym program) (open_begins st.made rest a o same));
+      events = grind (arith, open_begins st.made rest a o same);
       taken = st.items_are ∙ taken-under_way shape p.wanted st.calls more (length es) has reached not_ended;
       told_is = says_not (tells_closed reply) (IsTold shape more (length es)) (ap tells_closed answers) (λ told. absurd (omega (arith, told.1, not_ended)));
     }

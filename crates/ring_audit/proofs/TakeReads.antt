@@ -48,7 +48,6 @@ pub zero_at_last :
     due_take r.consumer ≡ Some a → LastBitIsDue shape C (due_take r.consumer) → AreOfTakes shape (es ++ end_event C (answered a false) ∷ []) → ⊥
 zero_at_last shape r es items a st some due (i, reads, last) of_takes =
     let (rest, whole) = readers.answered_next C es st.made (take_program shape of_takes.0) r.open_access a false st.events_are some of_takes.2 in
-    let a_is : a ≡ begins.Read (row_read_by C i) = same_open (due_take r.consumer) a _ due reads in
     grind (arith, last_reads_are_one_takes)
 
 -- a take is under way while an access is due
@@ -159,8 +158,7 @@ not_due shape r es items p None a st none same stands due_is goes rests wants ov
         let are : AreTakes shape 0 st.calls.takes st.calls.end = subst (λ s. AreTakes s 0 st.calls.takes st.calls.end) same stands.are in
         let more : List Made = on.next ∷ on.rest in
         let whole : take_program shape st.calls ++ more ≡ take_program shape of_takes.0 = ap (λ l. l ++ more) (sym made_so) ∙ sym on.whole_is in
-        let events : events_of C (take_program shape st.calls) ++ events_of C more ≡ events_of C (take_program shape of_takes.0) =
-        sym (events_of-append C (take_program shape st.calls) more) ∙ ap (events_of C) whole in
+        let events : events_of C (take_program shape st.calls) ++ events_of C more ≡ events_of C (take_program shape of_takes.0) = grind (arith, events_of-append) in
         let all : st.calls ≡ of_takes.0 = (calls_are_first_takes shape st.calls of_takes.0 are of_takes.1 (events_of C more, events)).1 tells_end in
         absurd (omega (arith, ap length whole, length-append (take_program shape st.calls) more, ap (λ calls. length (take_program shape calls)) all))
 

@@ -16,10 +16,8 @@ use Rattle.bits_core.proofs.LawLemmas.{fault_is_first}
 pub loop-i-init : goal.loop-i-init
 loop-i-init g c =
     let r = c.new-readers.result in
-    let some : ReadingStands c.args.shape.now (reading r.puts r.takes r.counted (g.S.Store.items c.args.put.now) []) [] =
-    subst (λ l. ReadingStands c.args.shape.now (reading r.puts r.takes r.counted l []) []) (sym c.requires.no_put) c.new-readers.ensures.stands in
-    let stands : ReadingStands c.args.shape.now (reading r.puts r.takes r.counted (g.S.Store.items c.args.put.now) (g.S.Store.items c.args.taken.now)) [] =
-    subst (λ l. ReadingStands c.args.shape.now (reading r.puts r.takes r.counted (g.S.Store.items c.args.put.now) l) []) (sym c.requires.none_taken) some in
+    let some : ReadingStands c.args.shape.now (reading r.puts r.takes r.counted (g.S.Store.items c.args.put.now) []) [] = grind (arith, c.requires.no_put, c.new-readers.ensures.stands) in
+    let stands : ReadingStands c.args.shape.now (reading r.puts r.takes r.counted (g.S.Store.items c.args.put.now) (g.S.Store.items c.args.taken.now)) [] = grind (arith, c.requires.none_taken) in
     record {
       heard = c.new-bits.ensures;
       put_shape = c.new-readers.ensures.put_shape;
@@ -34,7 +32,7 @@ loop-i-init g c =
     }
 
 pub returns-in-Some-clause-found : goal.returns-in-Some-clause-found
-returns-in-Some-clause-found g c = search (arith, break_of_bits, fault_is_first, slice_get-get_or, take, c.loop-i.invariant, c.in-Some.ensures.kind)
+returns-in-Some-clause-found g c = search (arith, break_of_bits, fault_is_first, slice_get-get_or, c.loop-i.invariant, c.in-Some.ensures.kind)
 
 pub returns-in_err-on-clause-refused : goal.returns-in_err-on-clause-refused
 returns-in_err-on-clause-refused g c =
@@ -107,8 +105,7 @@ returns-clause-found g c =
     let r : Reading = reading c.loop-i.readers.puts c.loop-i.readers.takes c.loop-i.readers.counted put taken in
     let end : c.loop-i.i ≡ length h = omega (arith, c.loop-i-test.false, c.loop-i.auto.i-end) in
     let whole : take c.loop-i.i h ≡ h = ap (λ k. take k h) end ∙ take-length h in
-    let old : ReadingStands r.puts.shape r h = subst (λ s. ReadingStands s r h) (sym l.put_shape) (subst (ReadingStands shape r) whole l.stands) in
-    grind (arith, take, length, take-length, c.told-told.ensures.found, c.as_slice.ensures)
+    grind (arith, take-length, c.told-told.ensures.found, c.as_slice.ensures)
 
 pub returns-in_err-on-clause-few : goal.returns-in_err-on-clause-few
 returns-in_err-on-clause-few g c =
@@ -116,12 +113,11 @@ returns-in_err-on-clause-few g c =
     let i : ℕ = c.loop-i.i in
     let l = c.loop-i.invariant in
     let r : Reading = reading c.loop-i.readers.puts c.loop-i.readers.takes c.loop-i.readers.counted (g.S.Store.items c.loop-i.put) (g.S.Store.items c.loop-i.taken) in
-    let within : i < length h = c.loop-i-test.true in
     let st : ReadingStands r.puts.shape r (take i h) = subst (λ s. ReadingStands s r (take i h)) (sym l.put_shape) l.stands in
     on_err c.from_residual.result
     (elim c.in_err-on.ensures.full [
-      | inl full ↦ inl (omega (arith, within))
-      | inr full ↦ inr (omega (arith, within, full (take i h) st, length-append {A = Event}, length-take-le i h (omega (arith, within))))
+      | inl full ↦ inl (omega arith)
+      | inr full ↦ inr (omega (arith, full (take i h) st, length-append {A = Event}, length-take-le i h (omega arith)))
     ])
 
 pub returns-in_err-on-clause-put_slots : goal.returns-in_err-on-clause-put_slots

@@ -8,7 +8,6 @@ use Rattle.ring_audit.proofs.choices.writes.Goals as goal
 
 pub returns-in-Read-clause-writes : goal.returns-in-Read-clause-writes
 returns-in-Read-clause-writes c b v is no_false no_true =
-    let both : Some (begins.Read c.in-Read.bit) ≡ Some (begins.Read b) = sym (c.in-Some.is ∙ ap Some c.in-Read.is) ∙ is in
     let same : c.in-Read.bit ≡ b = cc in
     elim v as (λ w. c.opening.result ≢ Some (opening_event P (begins.Write b w)) → c.opening-in-Read.result ≢ Some (opening_event P (begins.Write b w)) → ⊥) [
       | false ↦ λ one other. one (c.opening.ensures.some (begins.Write b false) (ap (λ z. Some (begins.Write z false)) same))

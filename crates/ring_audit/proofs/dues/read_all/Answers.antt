@@ -15,4 +15,4 @@ returns-then-not-read-clause-stands c e =
     stops_here r.puts.shape c.args.shape.now h c.loop-i.i _ e l.put_shape c.loop-i-test.true (c.read.ensures.stops c.if-not-read.true (take c.loop-i.i h) old)
 
 pub loop-i-preserved : goal.loop-i-preserved
-loop-i-preserved c = grind (arith, take, take_more, c.loop-i.invariant, c.read.ensures.goes_on, c.if-not-read.false, c.read.ensures.put_shape, c.read.ensures.take_shape)
+loop-i-preserved c = grind (arith, take_more, c.loop-i.invariant, c.read.ensures.goes_on, c.if-not-read.false, c.read.ensures.put_shape, c.read.ensures.take_shape)

@@ -16,7 +16,6 @@ pub returns-else-eq-clause-due : goal.returns-else-eq-clause-due
 returns-else-eq-clause-due c h st e = (
   λ is. absurd (cc),
   λ all.
-      let given : Some c.in-Some.next ≡ Some e = sym c.in-Some.is ∙ all.0 in
       let same : e ≡ c.in-Some.next = cc in
       let by : c.in-Some.next.side ≡ c.args.side = subst (λ d. d.side ≡ c.args.side) same all.1 in
       absurd (elim c.else-eq.branch [

@@ -28,14 +28,7 @@ returns-else-self-clause-read c =
     let r : PutReading = the_view c.self.inside in
     let a : Access = c.args.access in
     let word : ReaderState = record { width = width_of r.shape; cell = r.cell; read = 0; value = 0 } in
-    let no_word : (v : Bool) → 0 < r.room → a ≡ begins.Write (Cell r.cell 0) v → ⊥ = λ v room writes.
-    (elim c.else-self-gt0.branch [
-      | else-self-gt0-via-then-self-gt0+else-writes_next w ↦
-          let clash : true ≡ false =
-          sym (w.writes_next.ensures.1 (Cell r.cell 0, v, w.next.ensures.due ∙ ap due_read w.new.ensures.state ∙ read_due word r.shape.has_digits, writes)) ∙ w.if-writes_next.false in
-          absurd (cc)
-      | else-self-gt0-via-else-self-gt0 w ↦ absurd (omega (arith, room, w.if-self-gt0.false))
-    ]) in
+    let no_word : (v : Bool) → 0 < r.room → a ≡ begins.Write (Cell r.cell 0) v → ⊥ = grind (arith, read_due) in
     read_at r c.args.self.now r (opening_event P a) Stops Choosing None c.self.view_is c.self.invariant c.requires.at.0 c.requires.at.1
     (λ stage none at es items stored st of_puts. no_word_nor_count r.shape r es items stored a st none stage c.self.invariant.row_side no_word
     (λ some due. (let clash : true ≡ false = sym some ∙ c.if-self.false in absurd (cc))) of_puts)
