@@ -2,19 +2,11 @@
 use Rattle.std.proofs.Common.{◌≡◌, ◌↔◌, ℕ, suc, ◌+◌, ◌<◌, Bool, IsTrue, List, [], ◌∷◌, ◌++◌, length, take, drop, get_or, refl, sym, ap, subst, ◌∙◌, arith, append_assoc}
 use Rattle.std.proofs.lemmas.Option.{slice_get_within}
 use Rattle.std.proofs.lemmas.List.{take-append-drop, take_more, take_at}
-use Rattle.bits_core.specs.declared.events.Side.TheVariants.{P, C}
-use Rattle.bits_core.specs.declared.events.Event.{Event}
+use Rattle.ring_audit.proofs.Common.{P, C, Event, Shape, IsLawful, Side, subhistory, IsPrefix, PutsStand, WerePut, TakesStand, WereTaken, Reading, ReadingStands, BothFollow}
 use Rattle.bits_core.specs.declared.faults.Kind.{Kind}
 use Rattle.bits_core.specs.declared.faults.Kind.TheVariants.{NotProgram}
-use Rattle.bits_core.specs.declared.shapes.Shape.{Shape}
 use Rattle.bits_core.specs.Audit.{IsFirstFault}
-use Rattle.bits_core.specs.Lawful.{IsLawful}
-use Rattle.bits_core.specs.declared.events.Side.{Side}
-use Rattle.bits_core.specs.Made.{subhistory, IsPrefix}
 use Rattle.ring_audit.specs.Audit.{IsOfPrograms, IsFound, IsKindAt, IsFirstBreak, Statement, Lawful, Fault, IsFinding, tells_lawful}
-use Rattle.ring_audit.specs.PutReading.{PutsStand, WerePut}
-use Rattle.ring_audit.specs.TakeReading.{TakesStand, WereTaken}
-use Rattle.ring_audit.specs.Reading.{Reading, ReadingStands, BothFollow}
 use Rattle.bits_core.proofs.LawLemmas.{beginning_is_lawful, fault_breaks}
 use Rattle.bits_core.proofs.OwnEvents.{subhistory-append}
 

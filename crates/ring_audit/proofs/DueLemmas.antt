@@ -2,30 +2,14 @@
 use Rattle.std.proofs.Common.{◌≡◌, ◌≢◌, ◌⊎◌, ◌↔◌, IsTrue, inl, inr, ℕ, ◌+◌, ◌<◌, Bool, true, false, Option, Some, None, List, [], ◌∷◌, ◌++◌, take, length, get_or, nat_lt, if◌then◌else◌, refl, sym, ap, subst, ◌∙◌, arith}
 use Rattle.std.proofs.lemmas.Bool.{cases_eq}
 use Rattle.std.proofs.lemmas.List.{take_more, take-append-le}
-use Rattle.bits_core.specs.declared.events.Side.{Side}
-use Rattle.bits_core.specs.declared.events.Side.TheVariants.{P, C}
-use Rattle.bits_core.specs.declared.events.Bit.{Bit}
-use Rattle.bits_core.specs.declared.events.Bit.TheVariants.{R, Cell}
+use Rattle.ring_audit.proofs.Common.{Side, P, C, Bit, R, Cell, Access, Event, Shape, begun_by, opening_event, row_bit, UnaryState, due_unary, due_writes, first_access, due_read, put_program}
+use Rattle.ring_audit.proofs.Common.{take_program, PutReading, PutsStand, TakeReading, TakesStand, BothFollow, Dues}
 use Rattle.bits_core.specs.declared.events.Act.{Act}
 use Rattle.bits_core.specs.declared.events.Act.TheVariants.{WriteBegin}
-use Rattle.bits_core.specs.declared.events.Access.{Access}
 use Rattle.bits_core.specs.declared.events.Access.TheVariants as begins
-use Rattle.bits_core.specs.declared.events.Event.{Event}
-use Rattle.bits_core.specs.declared.shapes.Shape.{Shape}
-use Rattle.bits_core.specs.Bits.{begun_by}
-use Rattle.bits_core.specs.Made.{opening_event}
-use Rattle.register_core.specs.Row.{row_bit}
-use Rattle.register_core.specs.UnaryState.{UnaryState, due_unary, due_writes, first_access}
-use Rattle.register_core.specs.WordState.{due_read}
 use Rattle.ring_core.specs.ConsumerState.{ConsumerState, IsBetweenWords, consumer_due_at, due_take}
-use Rattle.ring_core.specs.Puts.{put_program}
-use Rattle.ring_core.specs.Takes.{take_program}
 use Rattle.ring_audit.specs.Sides.{EndsSo, AreOfPuts, AreOfTakes}
-use Rattle.ring_audit.specs.PutReading.{PutReading, PutsStand}
-use Rattle.ring_audit.specs.TakeReading.{TakeReading, TakesStand}
-use Rattle.ring_audit.specs.Reading.{BothFollow}
 use Rattle.ring_audit.specs.Dues.{BothStand, GoesOnBehind, IsDueOf, IsNoneOf, act_rank, ComesBefore, ComeInOrder, AreInOrder}
-use Rattle.ring_audit.specs.declared.choices.Dues.{Dues}
 use Rattle.ring_audit.proofs.Beginnings.{begins_so}
 use Rattle.ring_audit.proofs.Breaks.{begins_take}
 use Rattle.ring_audit.proofs.Readers.{end_at_rest, wrong_end}

@@ -2,13 +2,11 @@
 use Rattle.std.proofs.Common.{◌≡◌, ◌⊎◌, inl, inr, ℕ, suc, ◌<◌, Bool, IsTrue, List, take, sym, ◌∙◌, arith}
 use Rattle.std.proofs.lemmas.Bool.{cases_order}
 use Rattle.std.proofs.lemmas.List.{take-take}
-use Rattle.bits_core.specs.declared.events.Event.{Event}
+use Rattle.ring_audit.proofs.Common.{Event, Shape, IsLawful}
 use Rattle.bits_core.specs.declared.faults.Kind.{Kind}
 use Rattle.bits_core.specs.declared.faults.Kind.TheVariants.{NotProgram}
 use Rattle.bits_core.specs.declared.audits.Verdict.TheVariants as bits
-use Rattle.bits_core.specs.declared.shapes.Shape.{Shape}
 use Rattle.bits_core.specs.Audit.{IsFirstFault}
-use Rattle.bits_core.specs.Lawful.{IsLawful}
 use Rattle.ring_audit.specs.Audit.{IsFound, IsKindAt, IsFirstBreak, Lawful, Fault, OneFinding}
 use Rattle.ring_audit.proofs.Breaks.{programs_take}
 use Rattle.bits_core.proofs.LawLemmas.{fault_breaks, one_verdict}

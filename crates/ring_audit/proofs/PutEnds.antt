@@ -3,31 +3,18 @@ use Rattle.std.proofs.Common.{◌≡◌, ◌⊎◌, inl, inr, ℕ, zero, suc, �
 use Rattle.std.proofs.lemmas.Bool.{le-ltb, lt-ltb}
 use Rattle.std.proofs.lemmas.List.{map-append, length-map}
 use Rattle.std.proofs.lemmas.Nat.{pow_pos}
-use Rattle.bits_core.specs.declared.events.Side.TheVariants.{P}
-use Rattle.bits_core.specs.declared.events.Bit.TheVariants.{S, X, Cell}
-use Rattle.bits_core.specs.declared.events.Access.{Access}
+use Rattle.ring_audit.proofs.Common.{P, S, X, Cell, Access, Event, Shape, Made, Read, Write, access_of, end_event, events_of, IsPrefix, opening_event, RowWrite, row_bit, writes_in, digit_writes}
+use Rattle.ring_audit.proofs.Common.{due_writes, zero_reads, scan_phrase, row_read_by, due_scan, count_behind, open_events, events_of-append, length-events, scan_due, phrases-push, are-push}
 use Rattle.bits_core.specs.declared.events.Access.TheVariants as begins
-use Rattle.bits_core.specs.declared.events.Event.{Event}
-use Rattle.bits_core.specs.declared.shapes.Shape.{Shape}
 use Rattle.bits_core.specs.Shape.{AllFit, capacity_of, modulus_of, width_of}
-use Rattle.bits_core.specs.Made.{Made, Read, Write, access_of, end_event, events_of, IsPrefix, opening_event}
-use Rattle.register_core.specs.Row.{RowWrite, row_bit, writes_in}
-use Rattle.register_core.specs.Word.{digit_writes}
 use Rattle.register_core.specs.WordState.{ReaderStands, BeginsRead, IsNextRead, due_read}
-use Rattle.register_core.specs.UnaryState.{due_writes}
-use Rattle.register_core.specs.ScanState.{zero_reads, scan_phrase, row_read_by, due_scan}
 use Rattle.ring_core.specs.Counts.{number_past, Count, IsCount, first_count, batch_phrase}
 use Rattle.ring_core.specs.Puts.{Put, Puts, Stored, Full, stored_after, stored_count, words_phrase, put_phrase, put_phrases, close_phrase, accesses_before_count, IsPut, ArePuts}
 use Rattle.ring_core.specs.Items.{events_in, items_put, all_put}
-use Rattle.ring_core.specs.PutParts.{count_behind}
 use Rattle.ring_audit.specs.declared.puts.Stage.{Stage}
 use Rattle.ring_audit.specs.declared.puts.Stage.TheVariants.{Resting, Scanning, Choosing, Storing, Counting, Closing, Closed}
-use Rattle.ring_audit.specs.Sides.{open_events}
 use Rattle.ring_audit.specs.PutReading.{PutReading, IsPutReading, IsReaderAt, IsMost, InCount, PutsStand, WerePut}
 use Rattle.ring_core.proofs.CountRow.{batch_by_below, batch_long, counted_is_count, first_is_count}
-use Rattle.ring_core.proofs.Machines.Following.{events_of-append, length-events}
-use Rattle.ring_core.proofs.Machines.NextParts.{scan_due}
-use Rattle.ring_core.proofs.Machines.PutCalls.{phrases-push, are-push}
 use Rattle.ring_audit.proofs.Beginnings.{begin_is}
 use Rattle.ring_audit.proofs.Readers.{at_rest, open-short, open-long}
 use Rattle.ring_audit.proofs.PutReads.{made_at, at_stage, same_open, read_due}

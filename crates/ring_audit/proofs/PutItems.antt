@@ -2,23 +2,14 @@
 use Rattle.std.proofs.Common.{◌≡◌, ℕ, zero, suc, ◌+◌, ◌-◌, ◌%◌, ◌^◌, ◌<◌, Bool, true, Some, None, List, [], ◌∷◌, ◌++◌, length, map, refl, sym, ap, subst, ◌∙◌, arith, append_assoc, append-nil, length-append}
 use Rattle.std.proofs.lemmas.List.{map-append}
 use Rattle.std.proofs.Math.Nat.{suc-mod}
-use Rattle.bits_core.specs.declared.events.Side.TheVariants.{P}
-use Rattle.bits_core.specs.declared.events.Bit.{Bit}
-use Rattle.bits_core.specs.declared.events.Bit.TheVariants.{S, R, X, Cell}
-use Rattle.bits_core.specs.declared.events.Access.{Access}
+use Rattle.ring_audit.proofs.Common.{P, Bit, S, R, X, Cell, Access, Event, Shape, capacity_of, modulus_of, width_of, Made, Read, Write, answered, end_event, scan_phrase, row_read_by, count_behind}
 use Rattle.bits_core.specs.declared.events.Access.TheVariants as begins
-use Rattle.bits_core.specs.declared.events.Event.{Event}
-use Rattle.bits_core.specs.declared.shapes.Shape.{Shape}
-use Rattle.bits_core.specs.Shape.{capacity_of, modulus_of, width_of}
-use Rattle.bits_core.specs.Made.{Made, Read, Write, answered, end_event}
 use Rattle.register_core.specs.Row.{RowWrite, row_bit, first_bits, bits_with, bits_after, writes_in}
 use Rattle.register_core.specs.Word.{digit_writes, digit_reads, word_write, word_read}
 use Rattle.register_core.specs.WordState.{ReaderState, ReaderStands, read_digit}
 use Rattle.register_core.specs.UnaryState.{UnaryState, due_writes, due_unary, UnaryStands}
-use Rattle.register_core.specs.ScanState.{scan_phrase, row_read_by}
 use Rattle.ring_core.specs.Counts.{number_past, Count, first_count, count_bits, batch_phrase}
 use Rattle.ring_core.specs.Puts.{Put, Stored, stored_after, words_phrase, put_phrases}
-use Rattle.ring_core.specs.PutParts.{count_behind}
 use Rattle.ring_audit.specs.declared.puts.Stage.TheVariants.{Resting, Choosing, Storing, Counting}
 use Rattle.ring_audit.specs.PutReading.{PutReading, RowHolds, IsMost, has_items, InPut, InCount, PutsStand}
 use Rattle.ring_core.proofs.Machines.PutCalls.{phrases-push, stored-push, are-push, all_put-push}

@@ -2,16 +2,10 @@
 use Rattle.std.proofs.Common.{◌≡◌, ◌≢◌, inl, inr, ℕ, zero, suc, ◌+◌, ◌%◌, ◌<◌, ◌≤◌, Bool, true, false, not, is_some, Option, Some, None, List, [], ◌∷◌, ◌++◌, length, if◌then◌else◌, nat_lt, refl, sym, ap, subst, ◌∙◌, arith, append_assoc, append-nil, length-append}
 use Rattle.std.proofs.Math.Path.{fun_ext}
 use Rattle.std.proofs.lemmas.Bool.Decides.{nat_tests}
-use Rattle.bits_core.specs.declared.events.Side.TheVariants.{P}
-use Rattle.bits_core.specs.declared.events.Bit.TheVariants.{X, Cell}
-use Rattle.bits_core.specs.declared.events.Access.{Access}
+use Rattle.ring_audit.proofs.Common.{P, X, Cell, Access, Event, Shape, capacity_of, modulus_of, width_of, Made, Read, access_of, answered, end_event, events_of, opening_event, digit_writes}
+use Rattle.ring_audit.proofs.Common.{events_of-append, scan_due}
 use Rattle.bits_core.specs.declared.events.Access.TheVariants as begins
-use Rattle.bits_core.specs.declared.events.Event.{Event}
-use Rattle.bits_core.specs.declared.shapes.Shape.{Shape}
-use Rattle.bits_core.specs.Shape.{capacity_of, modulus_of, width_of}
-use Rattle.bits_core.specs.Made.{Made, Read, access_of, answered, end_event, events_of, opening_event}
 use Rattle.register_core.specs.Row.{RowWrite, row_bit, first_bits, bits_after, writes_in}
-use Rattle.register_core.specs.Word.{digit_writes}
 use Rattle.register_core.specs.WordState.{ReaderState, ReaderStands, read_digit, due_read}
 use Rattle.register_core.specs.Unary.{unary_phrase}
 use Rattle.register_core.specs.UnaryState.{UnaryState, bit_in, due_writes, due_unary, first_access}
@@ -25,8 +19,6 @@ use Rattle.ring_audit.specs.declared.puts.Stage.{Stage}
 use Rattle.ring_audit.specs.declared.puts.Stage.TheVariants.{Resting, Scanning, Choosing, Storing, Counting, Closed}
 use Rattle.ring_audit.specs.Sides.{AreOfPuts, told_of}
 use Rattle.ring_audit.specs.PutReading.{PutReading, IsPutReading, HasReadPut, IsReaderAt, RowHolds, IsMost, has_items, MadeWhile, PutsStand}
-use Rattle.ring_core.proofs.Machines.Following.{events_of-append}
-use Rattle.ring_core.proofs.Machines.NextParts.{scan_due}
 use Rattle.ring_audit.proofs.Readers as readers
 pub use Rattle.ring_audit.proofs.Readers.{same_open}
 use Rattle.ring_audit.proofs.Beginnings.{same_access, GoesOnWith}

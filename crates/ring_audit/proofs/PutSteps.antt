@@ -1,21 +1,13 @@
 -- The reader of puts continues: it stands after one more event.
 use Rattle.std.proofs.Common.{◌≡◌, ◌⊎◌, inl, inr, ℕ, suc, ◌+◌, ◌%◌, ◌<◌, ◌≤◌, Bool, true, false, Option, Some, None, List, [], ◌∷◌, ◌++◌, length, if◌then◌else◌, refl, sym, ap, subst, ◌∙◌, arith, append_assoc, append-nil}
-use Rattle.bits_core.specs.declared.events.Side.TheVariants.{P}
-use Rattle.bits_core.specs.declared.events.Bit.TheVariants.{X, Cell}
-use Rattle.bits_core.specs.declared.events.Access.{Access}
+use Rattle.ring_audit.proofs.Common.{P, X, Cell, Access, Event, Shape, Made, Read, answered, end_event, opening_event, RowWrite, row_bit, bits_after, writes_in, digit_writes, ReaderState}
+use Rattle.ring_audit.proofs.Common.{ReaderStands, count_behind}
 use Rattle.bits_core.specs.declared.events.Access.TheVariants as begins
-use Rattle.bits_core.specs.declared.events.Event.{Event}
-use Rattle.bits_core.specs.declared.shapes.Shape.{Shape}
 use Rattle.bits_core.specs.Shape.{capacity_of, modulus_of, batch_of}
-use Rattle.bits_core.specs.Made.{Made, Read, answered, end_event, opening_event}
-use Rattle.register_core.specs.Row.{RowWrite, row_bit, bits_after, writes_in}
-use Rattle.register_core.specs.Word.{digit_writes}
-use Rattle.register_core.specs.WordState.{ReaderState, ReaderStands}
 use Rattle.register_core.specs.UnaryState.{UnaryState, due_writes, UnaryStands}
 use Rattle.register_core.specs.ScanState.{ScanState, scan_read, zero_reads, scan_phrase, row_read_by}
 use Rattle.ring_core.specs.Counts.{LeavesRoom, LeavesRoomFor, Count, first_count, count_bits}
 use Rattle.ring_core.specs.Puts.{Put, Full, words_phrase, put_phrases, ArePuts}
-use Rattle.ring_core.specs.PutParts.{count_behind}
 use Rattle.ring_audit.specs.declared.puts.Stage.{Stage}
 use Rattle.ring_audit.specs.declared.puts.Stage.TheVariants.{Resting, Scanning, Choosing, Storing, Counting, Closing, Closed}
 use Rattle.ring_audit.specs.PutReading.{PutReading, RowHolds, IsMost, has_items, AtRest, InCount, MadeWhile, PutsStand}

@@ -1,12 +1,7 @@
 -- A reader of one side has read the events of accesses that were made, and the start of the one that is open: one more event.
 use Rattle.std.proofs.Common.{◌≡◌, suc, ◌*◌, ◌≤◌, Bool, Option, Some, None, List, [], ◌∷◌, ◌++◌, length, sym, ap, subst, ◌∙◌, arith, append_assoc, append-nil, length-append}
-use Rattle.bits_core.specs.declared.events.Side.{Side}
-use Rattle.bits_core.specs.declared.events.Access.{Access}
-use Rattle.bits_core.specs.declared.events.Event.{Event}
-use Rattle.bits_core.specs.Bits.{begun_by}
-use Rattle.bits_core.specs.Made.{Made, access_of, answered, end_event, events_of, IsPrefix, opening_event}
+use Rattle.ring_audit.proofs.Common.{Side, Access, Event, begun_by, Made, access_of, answered, end_event, events_of, IsPrefix, opening_event, events_of-append, length-events}
 use Rattle.ring_audit.specs.Sides.{open_events, EndsSo}
-use Rattle.ring_core.proofs.Machines.Following.{events_of-append, length-events}
 use Rattle.ring_core.proofs.Machines.GoingOn.{access_back}
 use Rattle.ring_audit.proofs.Beginnings.{begin_is, answer_is, same_access, GoesOnWith, next_begins, GoesOnBy, next_ends}
 

@@ -1,17 +1,10 @@
 -- Both readers stand after one more event of the history, or it is not of the programs.
 use Rattle.std.proofs.Common.{◌≡◌, ℕ, List, [], ◌∷◌, ◌++◌, length, if◌then◌else◌, sym, ap, subst, ◌∙◌, append_assoc, append-nil}
-use Rattle.bits_core.specs.declared.events.Side.{Side}
-use Rattle.bits_core.specs.declared.events.Side.TheVariants.{P, C}
-use Rattle.bits_core.specs.declared.events.Event.{Event}
-use Rattle.bits_core.specs.declared.shapes.Shape.{Shape}
+use Rattle.ring_audit.proofs.Common.{Side, P, C, Event, Shape, subhistory, AreOfPuts, AreOfTakes, PutReading, PutsStand, HasReadPut, TakeReading, TakesStand, HasReadTake, Reading, ReadingStands}
+use Rattle.ring_audit.proofs.Common.{BothFollow, reading}
 use Rattle.bits_core.specs.Bits.{same_side}
-use Rattle.bits_core.specs.Made.{subhistory}
 use Rattle.ring_audit.specs.declared.puts.PutStep.TheVariants as p
 use Rattle.ring_audit.specs.declared.takes.TakeStep.TheVariants as c
-use Rattle.ring_audit.specs.Sides.{AreOfPuts, AreOfTakes}
-use Rattle.ring_audit.specs.PutReading.{PutReading, PutsStand, HasReadPut}
-use Rattle.ring_audit.specs.TakeReading.{TakeReading, TakesStand, HasReadTake}
-use Rattle.ring_audit.specs.Reading.{Reading, ReadingStands, BothFollow, reading}
 pub use Rattle.ring_core.proofs.OneMore.{own_more}
 
 -- both readers stand after the event, if each stands after its own side's events

@@ -2,21 +2,13 @@
 pub use Rattle.lists.proofs.Results.{on_err}
 use Rattle.std.proofs.Common.{◌≡◌, inr, ℕ, ◌+◌, ◌<◌, ◌≤◌, Bool, List, [], ◌∷◌, ◌++◌, length, take, get_or, refl, sym, ap, subst, ◌∙◌, arith, length-append}
 use Rattle.std.proofs.lemmas.List.{take_more, take-take, take_at, length-take-le}
-use Rattle.bits_core.specs.declared.events.Event.{Event}
-use Rattle.bits_core.specs.declared.shapes.Shape.{Shape}
+use Rattle.ring_audit.proofs.Common.{Event, Shape, Side, P, C, IsLawful, Put, Made, subhistory, PutReading, PutsStand, HasReadPut, MadeWhile, TakeReading, HasReadTake}
 use Rattle.bits_core.specs.Shape.{batch_of}
-use Rattle.bits_core.specs.declared.events.Side.{Side}
-use Rattle.bits_core.specs.declared.events.Side.TheVariants.{P, C}
-use Rattle.bits_core.specs.Lawful.{IsLawful}
-use Rattle.ring_core.specs.Puts.{Put}
-use Rattle.bits_core.specs.Made.{Made, subhistory}
 use Rattle.ring_audit.specs.declared.puts.Stage.{Stage}
 use Rattle.ring_audit.specs.Audit.{IsFound, IsFinding, FitsIn, HasTooFewSlots, statement_in}
 use Rattle.ring_audit.specs.declared.audits.Found.{Found}
 use Rattle.ring_audit.specs.declared.puts.PutStep.TheVariants as p
 use Rattle.ring_audit.specs.declared.takes.TakeStep.TheVariants as c
-use Rattle.ring_audit.specs.PutReading.{PutReading, PutsStand, HasReadPut, MadeWhile}
-use Rattle.ring_audit.specs.TakeReading.{TakeReading, HasReadTake}
 use Rattle.ring_audit.specs.Reading.{ReadingStands, NeedsRoom, reading}
 use Rattle.ring_audit.proofs.Readings.{put_stores, take_takes}
 use Rattle.ring_audit.proofs.TakeEnds.{few_taken}

@@ -1,10 +1,7 @@
 -- The main theorem for a history that was found lawful and of the programs.
 use Rattle.std.proofs.Common.{◌≡◌, ℕ, Bool, List, length, sym, ap, subst, ◌∙◌, arith}
-use Rattle.bits_core.specs.declared.events.Side.TheVariants.{P, C}
-use Rattle.bits_core.specs.declared.events.Event.{Event}
-use Rattle.bits_core.specs.declared.shapes.Shape.{Shape}
+use Rattle.ring_audit.proofs.Common.{P, C, Event, Shape, first_count}
 use Rattle.bits_core.specs.Made.{clock, IsPrefix}
-use Rattle.ring_core.specs.Counts.{first_count}
 use Rattle.ring_core.specs.Items.{items_put, items_taken, IsTold}
 use Rattle.ring_core.specs.Linear.{IsLinearizableRun}
 use Rattle.ring_core.specs.RingLaw.{InEveryRun, RingLaw}

@@ -1,24 +1,15 @@
 -- What was taken so far, and whether a take returned Closed, by the calls whose accesses begin with these events.
 use Rattle.std.proofs.Common.{◌≡◌, ℕ, suc, ◌+◌, ◌*◌, ◌%◌, ◌<◌, ◌≤◌, ◌↔◌, Bool, true, false, Option, Some, None, List, [], ◌∷◌, ◌++◌, length, refl, sym, ap, subst, ◌∙◌, arith, append_assoc, append-nil, length-append, IsTrue}
-use Rattle.bits_core.specs.declared.events.Side.TheVariants.{C}
-use Rattle.bits_core.specs.declared.events.Access.{Access}
-use Rattle.bits_core.specs.declared.events.Event.{Event}
-use Rattle.bits_core.specs.declared.shapes.Shape.{Shape}
-use Rattle.bits_core.specs.Shape.{capacity_of, width_of}
-use Rattle.bits_core.specs.Made.{Made, answered, end_event, events_of, IsPrefix, opening_event}
-use Rattle.ring_core.specs.declared.replies.TakeReply.{TakeReply}
+use Rattle.ring_audit.proofs.Common.{C, Access, Event, Shape, capacity_of, width_of, Made, answered, end_event, events_of, IsPrefix, opening_event, TakeReply, Count, first_count, ConsumerState}
+use Rattle.ring_audit.proofs.Common.{due_take, is_taking, open_events, events_of-append, length-events}
 use Rattle.ring_core.specs.declared.replies.TakeReply.TheVariants as replies
 use Rattle.register_core.specs.Word.{word_read}
-use Rattle.ring_core.specs.Counts.{Count, first_count}
 use Rattle.ring_core.specs.Takes.{Take, Item, ItemAfterClose, Empty, Takes, End, count_after, words_read, items_phrase, take_phrase, take_phrases, end_phrase, take_program, AreTakes}
 use Rattle.ring_core.specs.Items.{taken_of, all_taken, events_in, items_taken, IsTold}
-use Rattle.ring_core.specs.ConsumerState.{ConsumerState, due_take, is_taking}
 use Rattle.ring_core.specs.ConsumerCalls.{ConsumerStands, HasTakeMore, TakeGoesOn, IsReplyToTake, items_reply, last_take_reply, reply_at_end}
-use Rattle.ring_audit.specs.Sides.{open_events}
 use Rattle.ring_audit.specs.TakeReading.{TakeReading, IsTakeReading, TakesStand, WereTaken, tells_closed}
 use Rattle.register_core.proofs.Digits.{length-reads}
 use Rattle.ring_core.proofs.Readings.Over.{over-under_way, taken-over, taken_all}
-use Rattle.ring_core.proofs.Machines.Following.{events_of-append, length-events}
 use Rattle.ring_core.proofs.Machines.GoingOn.{access_back}
 use Rattle.ring_audit.proofs.Readers.{open-short, open-long}
 use Rattle.ring_audit.proofs.Beginnings.{begin_is}

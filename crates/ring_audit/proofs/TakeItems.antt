@@ -1,7 +1,6 @@
 -- The items that a reader of takes has received are those that the takes took.
 use Rattle.std.proofs.Common.{◌≡◌, inl, inr, ℕ, Bool, true, false, Option, Some, None, List, [], ◌++◌, sym, ap, ap₂, ◌∙◌, append-nil, arith}
-use Rattle.bits_core.specs.declared.shapes.Shape.{Shape}
-use Rattle.ring_core.specs.declared.replies.TakeReply.{TakeReply}
+use Rattle.ring_audit.proofs.Common.{Shape, TakeReply}
 use Rattle.ring_core.specs.Takes.{Take, Takes}
 use Rattle.ring_core.specs.ConsumerCalls.{take_reply_to, reply_at_end, items_at_end, IsReplyToTake, AreItemsOfTake, IsAfterTake, items_reply}
 use Rattle.ring_core.specs.Items.{taken_of, all_taken}

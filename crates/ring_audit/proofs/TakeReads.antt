@@ -1,22 +1,12 @@
 -- The reader of takes: if it stops, the events are of no takes; if it continues, they are.
 use Rattle.std.proofs.Common.{◌≡◌, ◌⊎◌, inl, inr, ℕ, ◌≤◌, Bool, true, false, Option, Some, None, List, [], ◌∷◌, ◌++◌, length, refl, sym, ap, subst, ◌∙◌, arith, append_assoc, append-nil, length-append}
 use Rattle.std.proofs.lemmas.Bool.Decides.{nat_tests}
-use Rattle.bits_core.specs.declared.events.Bit.{Bit}
-use Rattle.bits_core.specs.declared.events.Bit.TheVariants.{S, R, X, Cell}
-use Rattle.bits_core.specs.declared.events.Side.TheVariants.{C}
-use Rattle.bits_core.specs.declared.events.Access.{Access}
+use Rattle.ring_audit.proofs.Common.{Bit, S, R, X, Cell, C, Access, Event, Shape, Made, Read, access_of, answered, end_event, events_of, IsPrefix, opening_event, RowWrite, row_bit, ReaderState}
+use Rattle.ring_audit.proofs.Common.{due_read, ScanState, zero_reads, scan_phrase, row_read_by, due_scan, due_writes, first_access, first_count, TakeReply, AreOfTakes, TakeReading, TakesStand}
+use Rattle.ring_audit.proofs.Common.{events_of-append}
 use Rattle.bits_core.specs.declared.events.Access.TheVariants as begins
-use Rattle.bits_core.specs.declared.events.Event.{Event}
-use Rattle.bits_core.specs.declared.shapes.Shape.{Shape}
-use Rattle.bits_core.specs.Made.{Made, Read, access_of, answered, end_event, events_of, IsPrefix, opening_event}
-use Rattle.register_core.specs.Row.{RowWrite, row_bit}
 use Rattle.register_core.specs.Word.{digit_reads}
-use Rattle.register_core.specs.WordState.{ReaderState, due_read}
-use Rattle.register_core.specs.ScanState.{ScanState, zero_reads, scan_phrase, row_read_by, due_scan}
-use Rattle.register_core.specs.UnaryState.{due_writes, first_access}
 use Rattle.bits_core.specs.Shape.{take_batch_of}
-use Rattle.ring_core.specs.Counts.{first_count}
-use Rattle.ring_core.specs.declared.replies.TakeReply.{TakeReply}
 use Rattle.ring_core.specs.Calls.{LastBitIsDue}
 use Rattle.ring_core.specs.Takes.{Takes, words_read, take_phrases, take_program, AreTakes}
 use Rattle.ring_core.specs.Items.{Tells}
@@ -25,9 +15,6 @@ use Rattle.ring_core.specs.declared.consumers.Stage.{Stage}
 use Rattle.ring_core.specs.declared.consumers.Stage.TheVariants.{Idle, Scanning, Checking, Rescanning, Loading, Counting}
 use Rattle.ring_core.specs.ConsumerState.{ConsumerState, IsBetweenWords, consumer_due_at, due_take, is_taking}
 use Rattle.ring_core.specs.ConsumerCalls.{Finding, Once, Twice, finding_phrase, count_taken, TakeGoesOn, ConsumerMadeAt, ConsumerStands}
-use Rattle.ring_audit.specs.Sides.{AreOfTakes}
-use Rattle.ring_audit.specs.TakeReading.{TakeReading, TakesStand}
-use Rattle.ring_core.proofs.Machines.Following.{events_of-append}
 use Rattle.ring_audit.proofs.Readers as readers
 use Rattle.ring_audit.proofs.Readers.{same_open}
 use Rattle.ring_audit.proofs.Beginnings.{same_access, GoesOnWith}

@@ -1,15 +1,8 @@
 -- An access of the consumer that ends: the reader stands after it, with the items that it brought.
 use Rattle.std.proofs.Common.{◌≡◌, ℕ, Bool, true, Option, Some, None, List, [], ◌∷◌, ◌++◌, append-nil, arith}
-use Rattle.bits_core.specs.declared.events.Side.TheVariants.{C}
-use Rattle.bits_core.specs.declared.events.Access.{Access}
-use Rattle.bits_core.specs.declared.events.Event.{Event}
-use Rattle.bits_core.specs.declared.shapes.Shape.{Shape}
-use Rattle.bits_core.specs.Made.{Made, answered, end_event}
+use Rattle.ring_audit.proofs.Common.{C, Access, Event, Shape, Made, answered, end_event, TakeReply, Takes, ConsumerState, due_take, is_taking}
 use Rattle.ring_core.specs.declared.consumers.Stage.TheVariants.{Counting}
-use Rattle.ring_core.specs.declared.replies.TakeReply.{TakeReply}
 use Rattle.ring_core.specs.declared.replies.TakeReply.TheVariants as replies
-use Rattle.ring_core.specs.Takes.{Takes}
-use Rattle.ring_core.specs.ConsumerState.{ConsumerState, due_take, is_taking}
 use Rattle.ring_core.specs.ConsumerCalls.{ConsumerStands, ConsumerHasMoved, IsReplyToTake}
 use Rattle.ring_audit.specs.TakeReading.{TakeReading, TakesStand, WantsAll, HasReadTake, step_by}
 use Rattle.ring_audit.proofs.Readers.{ended}

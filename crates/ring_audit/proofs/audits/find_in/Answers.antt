@@ -2,11 +2,9 @@ use Rattle.std.proofs.Common.{◌≡◌, ℕ, ◌+◌, ◌<◌, List, [], length
 use Rattle.std.proofs.Math.Seq.{take-length}
 use Rattle.std.proofs.lemmas.List.{take_more, length-take-le}
 use Rattle.std.proofs.lemmas.Option.{slice_get-get_or}
-use Rattle.bits_core.specs.declared.events.Event.{Event}
+use Rattle.ring_audit.proofs.Common.{Event, IsLawful, Reading, ReadingStands, BothFollow, reading}
 use Rattle.bits_core.specs.Auditors.{HeardEvents}
-use Rattle.bits_core.specs.Lawful.{IsLawful}
 use Rattle.ring_audit.specs.Audit.{HasTooFewSlots, IsFound}
-use Rattle.ring_audit.specs.Reading.{Reading, ReadingStands, BothFollow, reading}
 use Rattle.ring_audit.proofs.Breaks.{break_of_program, break_of_bits}
 use Rattle.ring_audit.proofs.Readings.{followed}
 use Rattle.ring_audit.proofs.Rooms.{on_err, too_few_slots}

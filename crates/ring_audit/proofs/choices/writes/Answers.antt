@@ -1,8 +1,6 @@
 use Rattle.std.proofs.Common.{◌≡◌, ◌≢◌, true, false, Some, refl, sym, ap, ◌∙◌}
-use Rattle.bits_core.specs.declared.events.Side.TheVariants.{P}
+use Rattle.ring_audit.proofs.Common.{P, opening_event, Dues}
 use Rattle.bits_core.specs.declared.events.Access.TheVariants as begins
-use Rattle.bits_core.specs.Made.{opening_event}
-use Rattle.ring_audit.specs.declared.choices.Dues.{Dues}
 use Rattle.ring_audit.proofs.DueLemmas.{digits_in_order}
 use Rattle.ring_audit.proofs.choices.writes.Goals as goal
 

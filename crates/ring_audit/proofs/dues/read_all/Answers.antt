@@ -1,8 +1,6 @@
 use Rattle.std.proofs.Common.{◌≡◌, ◌∙◌, ◌+◌, List, length, take, ap, subst, sym, arith}
 use Rattle.std.proofs.Math.Seq.{take-length}
-use Rattle.std.proofs.lemmas.List.{take_more}
-use Rattle.bits_core.specs.declared.events.Event.{Event}
-use Rattle.ring_audit.specs.Dues.{BothStand}
+use Rattle.ring_audit.proofs.Common.{take_more, Event, BothStand}
 use Rattle.ring_audit.proofs.DueLemmas.{stops_here}
 use Rattle.ring_audit.proofs.dues.read_all.Goals as goal
 

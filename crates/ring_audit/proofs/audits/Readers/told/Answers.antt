@@ -1,7 +1,5 @@
 use Rattle.std.proofs.Common.{ℕ, List, take, refl, subst}
-use Rattle.bits_core.specs.declared.events.Event.{Event}
-use Rattle.ring_audit.specs.TakeReading.{TakesStand, WereTaken}
-use Rattle.ring_audit.specs.Reading.{reading}
+use Rattle.ring_audit.proofs.Common.{Event, TakesStand, WereTaken, reading}
 use Rattle.ring_audit.proofs.Breaks.{both_read, found}
 use Rattle.ring_audit.proofs.audits.Readers.told.Goals as goal
 

@@ -1,9 +1,5 @@
 use Rattle.std.proofs.Common.{[], ◌∷◌, ◌++◌, subst, sym, ◌∙◌, ap}
-use Rattle.bits_core.specs.declared.events.Side.TheVariants.{P, C}
-use Rattle.bits_core.specs.Made.{subhistory}
-use Rattle.ring_audit.specs.Dues.{BothStand, GoesOnBehind}
-use Rattle.ring_audit.specs.Sides.{AreOfPuts, AreOfTakes}
-use Rattle.ring_audit.specs.TakeReading.{TakesStand}
+use Rattle.ring_audit.proofs.Common.{P, C, subhistory, BothStand, GoesOnBehind, AreOfPuts, AreOfTakes, TakesStand}
 use Rattle.ring_audit.proofs.Readings.{own_more}
 use Rattle.ring_audit.proofs.dues.Followers.candidates.Goals as goal
 

@@ -1,7 +1,5 @@
 use Rattle.std.proofs.Common.{ℕ, List, subst}
-use Rattle.bits_core.specs.declared.events.Event.{Event}
-use Rattle.ring_audit.specs.TakeReading.{TakesStand, WereTaken}
-use Rattle.ring_audit.specs.Reading.{reading}
+use Rattle.ring_audit.proofs.Common.{Event, TakesStand, WereTaken, reading}
 use Rattle.ring_audit.proofs.Breaks.{both_read}
 use Rattle.ring_audit.proofs.dues.Followers.follow.Goals as goal
 

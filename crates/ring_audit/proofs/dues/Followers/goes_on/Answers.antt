@@ -1,6 +1,5 @@
 use Rattle.std.proofs.Common.{[], ◌∷◌, ◌++◌, ap, subst, sym}
-use Rattle.ring_audit.specs.Dues.{BothStand}
-use Rattle.ring_audit.specs.Reading.{BothFollow}
+use Rattle.ring_audit.proofs.Common.{BothStand, BothFollow}
 use Rattle.ring_audit.proofs.DueLemmas.{decides}
 use Rattle.ring_audit.proofs.dues.Followers.goes_on.Goals as goal
 

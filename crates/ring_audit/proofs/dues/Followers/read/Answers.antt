@@ -1,7 +1,6 @@
 use Rattle.std.proofs.Common.{[], ◌∷◌, ◌++◌, length, refl, subst}
 use Rattle.ring_audit.specs.declared.takes.TakeStep.TheVariants as takes
-use Rattle.ring_audit.specs.TakeReading.{HasReadTake}
-use Rattle.ring_audit.specs.Reading.{reading}
+use Rattle.ring_audit.proofs.Common.{HasReadTake, reading}
 use Rattle.ring_audit.proofs.Readings.{put_stops, put_goes, put_stores, put_counts, take_stops, take_goes, take_takes}
 use Rattle.ring_audit.proofs.dues.Followers.read.Goals as goal
 

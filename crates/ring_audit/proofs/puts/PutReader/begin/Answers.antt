@@ -1,12 +1,6 @@
-use Rattle.bits_core.specs.Made.{opening_event}
+use Rattle.ring_audit.proofs.Common.{opening_event, X, P, Stops, Closing, the_view, PutReading, HasReadPut, IsReaderAt}
 use Rattle.std.proofs.Common.{◌≡◌, true, Some, None, sym, ap, ◌∙◌}
-use Rattle.bits_core.specs.declared.events.Bit.TheVariants.{X}
 use Rattle.bits_core.specs.declared.events.Access.TheVariants as begins
-use Rattle.bits_core.specs.declared.events.Side.TheVariants.{P}
-use Rattle.ring_audit.specs.declared.puts.PutStep.TheVariants.{Stops}
-use Rattle.ring_audit.specs.declared.puts.Stage.TheVariants.{Closing}
-use Rattle.ring_audit.specs.contracts.puts.PutReader.{the_view}
-use Rattle.ring_audit.specs.PutReading.{PutReading, HasReadPut, IsReaderAt}
 use Rattle.ring_audit.proofs.PutReads.{at_stage, no_more}
 use Rattle.ring_audit.proofs.puts.PutReader.begin.Goals as goal
 

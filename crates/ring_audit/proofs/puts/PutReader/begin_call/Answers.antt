@@ -1,13 +1,6 @@
-use Rattle.bits_core.specs.Made.{opening_event}
+use Rattle.ring_audit.proofs.Common.{opening_event, P, Access, row_read_by, due_scan, Stops, Resting, the_view, PutReading}
 use Rattle.std.proofs.Common.{◌≡◌, true, false, Some, None, sym, ap, ◌∙◌}
-use Rattle.bits_core.specs.declared.events.Side.TheVariants.{P}
-use Rattle.bits_core.specs.declared.events.Access.{Access}
 use Rattle.bits_core.specs.declared.events.Access.TheVariants as begins
-use Rattle.register_core.specs.ScanState.{row_read_by, due_scan}
-use Rattle.ring_audit.specs.declared.puts.PutStep.TheVariants.{Stops}
-use Rattle.ring_audit.specs.declared.puts.Stage.TheVariants.{Resting}
-use Rattle.ring_audit.specs.contracts.puts.PutReader.{the_view}
-use Rattle.ring_audit.specs.PutReading.{PutReading}
 use Rattle.ring_audit.proofs.PutReads.{read_at, no_call}
 use Rattle.ring_audit.proofs.puts.PutReader.begin_call.Goals as goal
 

@@ -1,14 +1,8 @@
-use Rattle.bits_core.specs.Made.{opening_event}
+use Rattle.ring_audit.proofs.Common.{opening_event, P, Cell, Access, due_unary, the_view, PutReading}
 use Rattle.std.proofs.Common.{◌≡◌, ◌<◌, Bool, true, false, Some, None, subst, sym, ap, ◌∙◌}
-use Rattle.bits_core.specs.declared.events.Side.TheVariants.{P}
-use Rattle.bits_core.specs.declared.events.Bit.TheVariants.{Cell}
-use Rattle.bits_core.specs.declared.events.Access.{Access}
 use Rattle.bits_core.specs.declared.events.Access.TheVariants as begins
-use Rattle.register_core.specs.UnaryState.{due_unary}
 use Rattle.ring_audit.specs.declared.puts.PutStep.TheVariants.{Stops, Counts}
 use Rattle.ring_audit.specs.declared.puts.Stage.TheVariants.{Choosing, Counting, Closed}
-use Rattle.ring_audit.specs.contracts.puts.PutReader.{the_view}
-use Rattle.ring_audit.specs.PutReading.{PutReading}
 use Rattle.ring_audit.proofs.PutReads.{read_at, no_word_nor_count}
 use Rattle.ring_audit.proofs.PutSteps.{begins_count}
 use Rattle.ring_audit.proofs.puts.PutReader.begin_count.Goals as goal

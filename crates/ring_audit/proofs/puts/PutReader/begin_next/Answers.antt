@@ -1,15 +1,7 @@
 use Rattle.std.proofs.Common.{◌≡◌, ◌⊎◌, inl, inr, ◌<◌, Bool, true, false, Some, None, subst, sym, ap, ◌∙◌}
-use Rattle.bits_core.specs.Made.{opening_event}
-use Rattle.bits_core.specs.declared.events.Side.TheVariants.{P}
-use Rattle.bits_core.specs.declared.events.Bit.TheVariants.{Cell}
-use Rattle.bits_core.specs.declared.events.Access.{Access}
+use Rattle.ring_audit.proofs.Common.{opening_event, P, Cell, Access, modulus_of, Stops, GoesOn, the_view, PutReading, HasReadPut, IsReaderAt, scan_due}
 use Rattle.bits_core.specs.declared.events.Access.TheVariants as begins
-use Rattle.bits_core.specs.Shape.{modulus_of}
-use Rattle.ring_audit.specs.declared.puts.PutStep.TheVariants.{Stops, GoesOn}
 use Rattle.ring_audit.specs.declared.puts.Stage.TheVariants.{Scanning, Storing, Counting}
-use Rattle.ring_audit.specs.contracts.puts.PutReader.{the_view}
-use Rattle.ring_audit.specs.PutReading.{PutReading, HasReadPut, IsReaderAt}
-use Rattle.ring_core.proofs.Machines.NextParts.{scan_due}
 use Rattle.ring_audit.proofs.PutReads.{at_stage, no_read, no_digit, no_bit, read_due}
 use Rattle.ring_audit.proofs.PutSteps.{begins_next}
 use Rattle.ring_audit.proofs.puts.PutReader.begin_next.Goals as goal

@@ -1,15 +1,6 @@
-use Rattle.bits_core.specs.Made.{opening_event}
+use Rattle.ring_audit.proofs.Common.{opening_event, P, Cell, Access, width_of, ReaderState, due_read, Stops, GoesOn, Choosing, Storing, the_view, PutReading}
 use Rattle.std.proofs.Common.{◌≡◌, ◌<◌, Bool, true, false, Some, None, sym, ap, ◌∙◌, arith}
-use Rattle.bits_core.specs.declared.events.Side.TheVariants.{P}
-use Rattle.bits_core.specs.declared.events.Bit.TheVariants.{Cell}
-use Rattle.bits_core.specs.declared.events.Access.{Access}
 use Rattle.bits_core.specs.declared.events.Access.TheVariants as begins
-use Rattle.bits_core.specs.Shape.{width_of}
-use Rattle.register_core.specs.WordState.{ReaderState, due_read}
-use Rattle.ring_audit.specs.declared.puts.PutStep.TheVariants.{Stops, GoesOn}
-use Rattle.ring_audit.specs.declared.puts.Stage.TheVariants.{Choosing, Storing}
-use Rattle.ring_audit.specs.contracts.puts.PutReader.{the_view}
-use Rattle.ring_audit.specs.PutReading.{PutReading}
 use Rattle.ring_audit.proofs.PutReads.{read_at, no_word_nor_count, read_due}
 use Rattle.ring_audit.proofs.PutSteps.{begins_word}
 use Rattle.ring_audit.proofs.puts.PutReader.begin_word.Goals as goal

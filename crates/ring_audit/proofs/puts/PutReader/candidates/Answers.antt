@@ -1,6 +1,5 @@
 use Rattle.std.proofs.Common.{subst, sym, ap, ◌∙◌}
-use Rattle.ring_audit.specs.PutReading.{PutReading}
-use Rattle.ring_audit.specs.Dues.{IsNoneOf}
+use Rattle.ring_audit.proofs.Common.{PutReading, IsNoneOf}
 use Rattle.ring_audit.proofs.DueLemmas.{put_open, put_rest}
 use Rattle.ring_audit.proofs.puts.PutReader.candidates.Goals as goal
 

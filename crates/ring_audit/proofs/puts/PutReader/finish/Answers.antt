@@ -1,13 +1,7 @@
 use Rattle.std.proofs.Common.{true, Some, None, sym, ap, ◌∙◌}
-use Rattle.bits_core.specs.declared.events.Side.TheVariants.{P}
-use Rattle.bits_core.specs.declared.events.Bit.TheVariants.{X}
-use Rattle.bits_core.specs.declared.events.Access.{Access}
+use Rattle.ring_audit.proofs.Common.{P, X, Access, answered, end_event, GoesOn, the_view, PutReading}
 use Rattle.bits_core.specs.declared.events.Access.TheVariants as begins
-use Rattle.bits_core.specs.Made.{answered, end_event}
-use Rattle.ring_audit.specs.declared.puts.PutStep.TheVariants.{GoesOn}
 use Rattle.ring_audit.specs.declared.puts.Stage.TheVariants.{Closing, Closed}
-use Rattle.ring_audit.specs.contracts.puts.PutReader.{the_view}
-use Rattle.ring_audit.specs.PutReading.{PutReading}
 use Rattle.ring_audit.proofs.PutReads.{read_at, same_open}
 use Rattle.ring_audit.proofs.PutSteps.{ends_close}
 use Rattle.ring_audit.proofs.puts.PutReader.finish.Goals as goal

@@ -1,12 +1,6 @@
 use Rattle.std.proofs.Common.{◌≡◌, Some, None, sym, ◌∙◌}
-use Rattle.bits_core.specs.declared.events.Side.TheVariants.{P}
-use Rattle.bits_core.specs.declared.events.Access.{Access}
-use Rattle.bits_core.specs.Made.{answered, end_event}
-use Rattle.register_core.specs.UnaryState.{due_unary}
-use Rattle.ring_audit.specs.declared.puts.PutStep.TheVariants.{GoesOn}
+use Rattle.ring_audit.proofs.Common.{P, Access, answered, end_event, due_unary, GoesOn, the_view, PutReading}
 use Rattle.ring_audit.specs.declared.puts.Stage.TheVariants.{Resting, Counting}
-use Rattle.ring_audit.specs.contracts.puts.PutReader.{the_view}
-use Rattle.ring_audit.specs.PutReading.{PutReading}
 use Rattle.ring_audit.proofs.PutReads.{read_at, no_due}
 use Rattle.ring_audit.proofs.PutItems.{ends_bit, ends_count}
 use Rattle.ring_audit.proofs.puts.PutReader.finish_bit.Goals as goal

@@ -1,13 +1,6 @@
 use Rattle.std.proofs.Common.{◌≡◌, suc, ◌+◌, ◌-◌, ◌%◌, true, Some, None, ap, ◌∙◌, arith}
-use Rattle.bits_core.specs.declared.events.Side.TheVariants.{P}
-use Rattle.bits_core.specs.declared.events.Access.{Access}
-use Rattle.bits_core.specs.Shape.{width_of}
-use Rattle.bits_core.specs.Made.{answered, end_event}
-use Rattle.register_core.specs.WordState.{ReaderState}
+use Rattle.ring_audit.proofs.Common.{P, Access, width_of, answered, end_event, ReaderState, Choosing, Storing, the_view, PutReading}
 use Rattle.ring_audit.specs.declared.puts.PutStep.TheVariants.{GoesOn, Stores}
-use Rattle.ring_audit.specs.declared.puts.Stage.TheVariants.{Choosing, Storing}
-use Rattle.ring_audit.specs.contracts.puts.PutReader.{the_view}
-use Rattle.ring_audit.specs.PutReading.{PutReading}
 use Rattle.ring_audit.proofs.PutReads.{read_at, fed_by_write, whole_word}
 use Rattle.ring_audit.proofs.PutItems.{ends_digit, ends_word}
 use Rattle.ring_audit.proofs.puts.PutReader.finish_digit.Goals as goal

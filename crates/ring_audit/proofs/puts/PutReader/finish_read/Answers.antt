@@ -1,12 +1,6 @@
 use Rattle.std.proofs.Common.{◌≡◌, true, false, Some, None, [], ◌∷◌, ◌++◌, subst, sym, ◌∙◌}
-use Rattle.bits_core.specs.declared.events.Side.TheVariants.{P}
-use Rattle.bits_core.specs.declared.events.Access.{Access}
-use Rattle.bits_core.specs.Made.{answered, end_event}
-use Rattle.ring_audit.specs.declared.puts.PutStep.TheVariants.{Stops, GoesOn}
+use Rattle.ring_audit.proofs.Common.{P, Access, answered, end_event, Stops, GoesOn, the_view, AreOfPuts, PutReading}
 use Rattle.ring_audit.specs.declared.puts.Stage.TheVariants.{Resting, Scanning, Choosing}
-use Rattle.ring_audit.specs.contracts.puts.PutReader.{the_view}
-use Rattle.ring_audit.specs.Sides.{AreOfPuts}
-use Rattle.ring_audit.specs.PutReading.{PutReading}
 use Rattle.ring_audit.proofs.PutReads.{read_at, reads_next, zero_at_last, no_value}
 use Rattle.ring_audit.proofs.PutSteps.{ends_zero, ends_with_room, ends_full}
 use Rattle.ring_audit.proofs.puts.PutReader.finish_read.Goals as goal

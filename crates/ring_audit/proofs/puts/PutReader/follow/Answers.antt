@@ -1,7 +1,5 @@
 use Rattle.std.proofs.Common.{ℕ, List, subst}
-use Rattle.bits_core.specs.declared.events.Event.{Event}
-use Rattle.ring_audit.specs.contracts.puts.PutReader.{the_view}
-use Rattle.ring_audit.specs.PutReading.{PutReading, PutsStand, WerePut}
+use Rattle.ring_audit.proofs.Common.{Event, the_view, PutReading, PutsStand, WerePut}
 use Rattle.ring_audit.proofs.PutEnds.{has_put}
 use Rattle.ring_audit.proofs.puts.PutReader.follow.Goals as goal
 

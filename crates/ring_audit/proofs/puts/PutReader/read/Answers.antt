@@ -1,7 +1,5 @@
 use Rattle.std.proofs.Common.{subst, sym, ap, ◌∙◌}
-use Rattle.bits_core.specs.declared.events.Side.TheVariants.{P}
-use Rattle.ring_core.specs.Puts.{put_program}
-use Rattle.ring_audit.specs.PutReading.{PutReading, HasReadPut}
+use Rattle.ring_audit.proofs.Common.{P, put_program, PutReading, HasReadPut}
 use Rattle.ring_audit.proofs.Beginnings.{begins_so}
 use Rattle.ring_audit.proofs.Readers.{begin_in_access, end_at_rest, wrong_end}
 use Rattle.ring_audit.proofs.puts.PutReader.read.Goals as goal

@@ -1,14 +1,6 @@
 use Rattle.std.proofs.Common.{◌≡◌, ◌≢◌, Some, None, subst, ap, ◌∙◌}
-use Rattle.bits_core.specs.Made.{opening_event}
-use Rattle.bits_core.specs.declared.events.Side.TheVariants.{P}
-use Rattle.bits_core.specs.declared.events.Bit.TheVariants.{Cell}
+use Rattle.ring_audit.proofs.Common.{opening_event, P, Cell, width_of, ReaderState, due_read, UnaryState, due_unary, Choosing, the_view, PutReading}
 use Rattle.bits_core.specs.declared.events.Access.TheVariants as begins
-use Rattle.bits_core.specs.Shape.{width_of}
-use Rattle.register_core.specs.WordState.{ReaderState, due_read}
-use Rattle.register_core.specs.UnaryState.{UnaryState, due_unary}
-use Rattle.ring_audit.specs.declared.puts.Stage.TheVariants.{Choosing}
-use Rattle.ring_audit.specs.contracts.puts.PutReader.{the_view}
-use Rattle.ring_audit.specs.PutReading.{PutReading}
 use Rattle.ring_audit.proofs.PutReads.{read_due, no_word_nor_count}
 use Rattle.ring_audit.proofs.DueLemmas.{begins_by, counts_last}
 use Rattle.ring_audit.proofs.puts.PutReader.word_or_count.Goals as goal

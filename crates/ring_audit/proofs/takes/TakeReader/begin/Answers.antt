@@ -1,10 +1,5 @@
-use Rattle.bits_core.specs.Made.{opening_event}
+use Rattle.ring_audit.proofs.Common.{opening_event, C, take_program, IsBetweenWords, AreOfTakes, TakeReading, TakesStand}
 use Rattle.std.proofs.Common.{◌≡◌, true, false, [], ◌∷◌, ◌++◌, subst, sym, ap, ◌∙◌}
-use Rattle.bits_core.specs.declared.events.Side.TheVariants.{C}
-use Rattle.ring_core.specs.Takes.{take_program}
-use Rattle.ring_core.specs.ConsumerState.{IsBetweenWords}
-use Rattle.ring_audit.specs.Sides.{AreOfTakes}
-use Rattle.ring_audit.specs.TakeReading.{TakeReading, TakesStand}
 use Rattle.ring_audit.proofs.Beginnings.{begun_of}
 use Rattle.ring_audit.proofs.Readers.{begin_in_access}
 use Rattle.ring_audit.proofs.takes.TakeReader.begin.Goals as goal

@@ -1,6 +1,5 @@
 use Rattle.std.proofs.Common.{subst, sym, ap, ◌∙◌}
-use Rattle.ring_audit.specs.Dues.{IsNoneOf}
-use Rattle.ring_audit.specs.TakeReading.{TakeReading}
+use Rattle.ring_audit.proofs.Common.{IsNoneOf, TakeReading}
 use Rattle.ring_audit.proofs.DueLemmas.{take_open, take_rest}
 use Rattle.ring_audit.proofs.takes.TakeReader.candidates.Goals as goal
 

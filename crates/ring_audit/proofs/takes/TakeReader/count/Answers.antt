@@ -1,7 +1,5 @@
 use Rattle.std.proofs.Common.{subst, sym, ap, ◌∙◌}
-use Rattle.ring_core.specs.ConsumerState.{ConsumerState}
-use Rattle.ring_core.specs.ConsumerCalls.{ConsumerStands}
-use Rattle.ring_audit.specs.TakeReading.{TakeReading}
+use Rattle.ring_audit.proofs.Common.{ConsumerState, ConsumerStands, TakeReading}
 use Rattle.ring_audit.proofs.TakeReads.{counts_else}
 use Rattle.ring_audit.proofs.takes.TakeReader.count.Goals as goal
 

@@ -2,10 +2,7 @@ use Rattle.std.proofs.Common.{◌≡◌, ℕ, List, inl, refl, Some, subst, sym,
 use Rattle.ring_core.specs.declared.replies.TakeReply.TheVariants.{Closed}
 use Rattle.bits_core.specs.Shape.{take_batch_of}
 use Rattle.ring_core.specs.GoingOn.{WritesTakeCount}
-use Rattle.ring_core.specs.ConsumerState.{ConsumerState, IsBetweenWords, is_taking}
-use Rattle.ring_core.specs.ConsumerCalls.{ConsumerStands}
-use Rattle.bits_core.specs.declared.events.Event.{Event}
-use Rattle.ring_audit.specs.TakeReading.{TakeReading, TakesStand}
+use Rattle.ring_audit.proofs.Common.{ConsumerState, IsBetweenWords, is_taking, ConsumerStands, Event, TakeReading, TakesStand}
 use Rattle.ring_audit.proofs.TakeReads.{not_due, due_takes, taking_or_told, wants_most, begun_stands}
 use Rattle.ring_audit.proofs.takes.TakeReader.due.Goals as goal
 

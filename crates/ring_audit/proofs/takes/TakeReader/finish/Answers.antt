@@ -1,11 +1,6 @@
 use Rattle.std.proofs.Common.{◌≡◌, [], ◌∷◌, ◌++◌, Some, None, subst, sym, ap, ◌∙◌}
-use Rattle.bits_core.specs.declared.events.Side.TheVariants.{C}
-use Rattle.bits_core.specs.declared.events.Event.{Event}
-use Rattle.bits_core.specs.Made.{answered, end_event}
+use Rattle.ring_audit.proofs.Common.{C, Event, answered, end_event, due_take, AreOfTakes, TakeReading, HasReadTake, step_by}
 use Rattle.ring_core.specs.Calls.{LastBitIsDue}
-use Rattle.ring_core.specs.ConsumerState.{due_take}
-use Rattle.ring_audit.specs.Sides.{AreOfTakes}
-use Rattle.ring_audit.specs.TakeReading.{TakeReading, HasReadTake, step_by}
 use Rattle.ring_audit.proofs.TakeReads.{zero_at_last}
 use Rattle.ring_audit.proofs.TakeSteps.{finish_goes_on, has_read}
 use Rattle.ring_audit.proofs.takes.TakeReader.finish.Goals as goal

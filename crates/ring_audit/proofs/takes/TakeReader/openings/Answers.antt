@@ -1,9 +1,5 @@
 use Rattle.std.proofs.Common.{◌≡◌, true, false, [], ◌∷◌, ◌++◌, subst, sym, ◌∙◌}
-use Rattle.bits_core.specs.declared.events.Side.TheVariants.{C}
-use Rattle.bits_core.specs.Made.{opening_event}
-use Rattle.ring_core.specs.ConsumerState.{IsBetweenWords}
-use Rattle.ring_audit.specs.Sides.{AreOfTakes}
-use Rattle.ring_audit.specs.TakeReading.{TakeReading, TakesStand}
+use Rattle.ring_audit.proofs.Common.{C, opening_event, IsBetweenWords, AreOfTakes, TakeReading, TakesStand}
 use Rattle.ring_audit.proofs.DueLemmas.{reads_before_count}
 use Rattle.ring_audit.proofs.takes.TakeReader.openings.Goals as goal
 

@@ -1,8 +1,5 @@
 use Rattle.std.proofs.Common.{[], ◌∷◌, ◌++◌, subst, sym, ap, ◌∙◌}
-use Rattle.bits_core.specs.declared.events.Side.TheVariants.{C}
-use Rattle.ring_core.specs.Takes.{take_program}
-use Rattle.ring_audit.specs.Sides.{AreOfTakes}
-use Rattle.ring_audit.specs.TakeReading.{TakeReading}
+use Rattle.ring_audit.proofs.Common.{C, take_program, AreOfTakes, TakeReading}
 use Rattle.ring_audit.proofs.Beginnings.{begins_so}
 use Rattle.ring_audit.proofs.Readers.{end_at_rest, wrong_end}
 use Rattle.ring_audit.proofs.takes.TakeReader.read.Goals as goal
