@@ -1,13 +1,9 @@
 -- A put that stored fewer items than it was offered filled the ring.
 use Rattle.std.proofs.Common.{◌≡◌, ℕ, ◌%◌, ◌<◌, List, [], ◌∷◌, ◌++◌, length, take, sym, ap, subst, ◌∙◌, arith}
-use Rattle.bits_core.specs.declared.shapes.Shape.{Shape}
-use Rattle.bits_core.specs.Shape.{modulus_of}
+use Rattle.ring_player.proofs.Common.{Shape, modulus_of, EveryPlayFills, AreAttempts, offered, Content}
 use Rattle.ring_core.specs.ProducerCalls.{IsPutOf, room_in}
 use Rattle.ring_core.specs.Puts.{ArePuts, IsPut, number_after, Put, Stored, stored_in}
 use Rattle.ring_core.specs.RingLaw.{FillIsFresh, InEveryRun, IsRun}
-use Rattle.ring_player.specs.Headline.{EveryPlayFills}
-use Rattle.ring_player.specs.Plays.{AreAttempts, offered}
-use Rattle.ring_script.specs.Content.{Content}
 use Rattle.ring_core.proofs.Recorded.RecordedPuts.{took_all as taken_so}
 
 -- a put among attempts, after others, is a put of the items offered there
@@ -26,6 +22,8 @@ pub fills : InEveryRun FillIsFresh → EveryPlayFills
 fills law script letters h plays puts takes asked p q seen items n start stop at ended few =
     let shape : Shape = script.shape in
     let run : IsRun shape h puts takes = record { lawful = plays.played.lawful; puts_follow = p; takes_follow = q } in
+    let there : IsPut shape (stored_in 0 at.before) (Stored seen items) = put_at shape 0 at.before at.after (Stored seen items) (subst (ArePuts shape 0) at.among p.are) in
+    let room : IsPut shape n (Stored seen items) = subst (λ k. IsPut shape k (Stored seen items)) (sym at.number) there in
     let attempts : AreAttempts script 0 (at.before ++ Stored seen items ∷ at.after) = subst (AreAttempts script 0) at.among asked.attempts in
     let behind : items ≡ take (room_in shape (stored_in 0 at.before % modulus_of shape) seen) (offered script (stored_in 0 at.before)) =
     attempt_at script 0 at.before at.after (Stored seen items) attempts in

@@ -1,12 +1,7 @@
 -- The ends of overlapped reads, by intervals and by the marks that a memory keeps.
 use Rattle.std.proofs.Common.{◌≡◌, ℕ, zero, suc, Bool, true, false, List, length, refl, sym, ap, ◌∙◌, arith}
-use Rattle.bits_core.specs.declared.events.Act.TheVariants.{ReadEnd}
-use Rattle.bits_core.specs.declared.events.Event.{Event}
-use Rattle.bits_core.specs.declared.shapes.Shape.{Shape}
-use Rattle.bits_core.specs.Lawful.{IsLawful}
+use Rattle.ring_player.proofs.Common.{ReadEnd, Event, Shape, IsLawful, turn, IsAtTurn}
 use Rattle.bits_core.specs.Memory.{count_below, flicker_count, is_flicker_at}
-use Rattle.bits_core.specs.Oracle.{turn}
-use Rattle.ring_player.specs.Actors.{IsAtTurn}
 use Rattle.ring_player.specs.Laws.{FlickersAreCounted}
 use Rattle.ring_player.specs.Plays.{AreInTurn, AreNumbered, EndsOverlapped, HasFlickers}
 use Rattle.bits_core.proofs.LawLemmas.{flicker_is_by_interval}

@@ -1,19 +1,11 @@
 -- The main theorem, from the law of the ring.
 use Rattle.std.proofs.Common.{◌≡◌, ℕ, zero, suc, ◌+◌, ◌%◌, List, [], ◌∷◌, ◌++◌, length, take, drop, refl, sym, ap, ap₂, subst, ◌∙◌, arith}
-use Rattle.bits_core.specs.declared.events.Side.{Side}
-use Rattle.bits_core.specs.declared.events.Side.TheVariants.{P, C}
-use Rattle.bits_core.specs.declared.events.Event.{Event}
+use Rattle.ring_player.proofs.Common.{Side, P, C, Event, batch_of, modulus_of, room_in, FollowsTakes, Takes, AreAttempts, offered, Plays, Content, past_is}
 use Rattle.bits_core.specs.Made.{clock}
-use Rattle.bits_core.specs.Shape.{batch_of, modulus_of}
 use Rattle.ring_core.specs.Counts.{first_count, number_past}
 use Rattle.ring_core.specs.Items.{all_put, items_put, items_put_in, IsTold, ItemsAreRead, ToldIn}
-use Rattle.ring_core.specs.ProducerCalls.{room_in}
 use Rattle.ring_core.specs.Puts.{FollowsPuts, Full, Put, Puts, Stored, stored_in}
 use Rattle.ring_core.specs.RingLaw.{ClosedIsTrue, InEveryRun, IsRun}
-use Rattle.ring_core.specs.Takes.{FollowsTakes, Takes}
-use Rattle.ring_player.specs.Plays.{AreAttempts, offered, Plays}
-use Rattle.ring_script.specs.Content.{Content}
-use Rattle.ring_core.proofs.CountRow.{past_is}
 use Rattle.ring_core.proofs.OwnEvents.{clock_end}
 
 drop-all : (n : ℕ) (xs : List ℕ) → n ≡ length xs → drop n xs ≡ []

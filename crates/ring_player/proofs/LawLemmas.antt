@@ -1,16 +1,10 @@
 -- The laws of src/laws.rt as lemmas, each under its name, and two more that only proofs need: cited by proofs, here and in the
 -- crates above.
 use Rattle.std.specs.Prelude.{◌≡◌, ℕ, ◌+◌, Bool, true, false, List, [], ◌∷◌, ◌++◌}
-use Rattle.bits_core.specs.declared.events.Act.TheVariants.{ReadEnd}
-use Rattle.bits_core.specs.declared.events.Event.{Event}
-use Rattle.bits_core.specs.declared.shapes.Shape.{Shape}
-use Rattle.bits_core.specs.Lawful.{IsLawful}
+use Rattle.ring_player.proofs.Common.{ReadEnd, Event, Shape, IsLawful, turn, IsRun, IsAtTurn}
 use Rattle.bits_core.specs.Memory.{is_flicker}
-use Rattle.bits_core.specs.Oracle.{turn}
-use Rattle.ring_core.specs.RingLaw.{IsRun}
 use Rattle.ring_core.proofs.LawLemmas.{closed_stays, items_put_are_read, ring_law_closed, ring_law_empty, ring_law_fill, ring_law_full, ring_law_items, ring_law_prefix, ring_law_words}
 use Rattle.ring_player.specs.Headline.{EveryPlayFills, EveryPlayHolds}
-use Rattle.ring_player.specs.Actors.{IsAtTurn}
 use Rattle.ring_player.specs.Plays.{AreInTurn}
 use Rattle.ring_player.proofs.Fillings.{fills}
 use Rattle.ring_player.proofs.Flickers.{in_turn}

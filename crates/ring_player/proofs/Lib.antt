@@ -1,3 +1,4 @@
+pub mod Common
 pub mod Moves
 mod Nexts
 mod Written

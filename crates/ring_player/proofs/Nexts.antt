@@ -1,14 +1,8 @@
 -- What the next access of a machine implies, by cases of the call under way and of the access.
 use Rattle.std.proofs.Common.{◌≡◌, ℕ, Bool, true, false, Option, Some, None, List, refl, sym, subst, arith}
-use Rattle.bits_core.specs.declared.events.Access.{Access}
-use Rattle.bits_core.specs.declared.shapes.Shape.{Shape}
-use Rattle.bits_core.specs.Made.{Made}
+use Rattle.ring_player.proofs.Common.{Access, Shape, Made, ConsumerState, is_taking, Call, call_of, ProducerState, Puts, put_program, Takes, take_program}
 use Rattle.ring_core.specs.ConsumerCalls.{ConsumerStands, TakeGoesOn}
-use Rattle.ring_core.specs.ConsumerState.{ConsumerState, is_taking}
 use Rattle.ring_core.specs.ProducerCalls.{ProducerStands, PutGoesOn}
-use Rattle.ring_core.specs.ProducerState.{Call, call_of, ProducerState}
-use Rattle.ring_core.specs.Puts.{Puts, put_program}
-use Rattle.ring_core.specs.Takes.{Takes, take_program}
 
 abbrev pub IsNextPut : Shape → Puts → Option Call → List Made → Option Access → Type 0
 IsNextPut shape calls None made None = made ≡ put_program shape calls

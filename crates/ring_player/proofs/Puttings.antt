@@ -1,24 +1,15 @@
 -- What the producer's actor does with its machine.
 use Rattle.std.proofs.Common.{◌≡◌, ℕ, zero, suc, ◌+◌, ◌*◌, ◌%◌, ◌<◌, ◌≤◌, Bool, true, false, cond, Option, Some, None, List, [], ◌∷◌, ◌++◌, length, take, drop, refl, sym, ap, subst, ◌∙◌, append-nil, length-append, arith}
-use Rattle.bits_core.specs.declared.events.Side.TheVariants.{P}
-use Rattle.bits_core.specs.declared.events.Access.{Access}
-use Rattle.bits_core.specs.declared.shapes.Shape.{Shape}
+use Rattle.ring_player.proofs.Common.{P, Access, Shape, Made, answered, events_of, LastBitIsDue, first_count, fulls, AreAttempts, ArePutsOf, IsDoneAfter, IsProgram, offered, Content}
+use Rattle.ring_player.proofs.Common.{events_of-append, past_is}
 use Rattle.bits_core.specs.Shape.{AllFit, batch_of, modulus_of, width_of}
-use Rattle.bits_core.specs.Made.{Made, answered, events_of}
 use Rattle.ring_core.specs.declared.replies.BatchReply.{BatchReply}
-use Rattle.ring_core.specs.Calls.{LastBitIsDue}
-use Rattle.ring_core.specs.Counts.{first_count}
 use Rattle.ring_core.specs.ProducerCalls.{and_put, HasCallMore, ProducerHasMoved, IsAfterCall, IsPutOf, IsReplyToCall, new_producer, no_puts, ProducerStands, put_reply_to, room_in}
 use Rattle.ring_core.specs.ProducerState.{batch_reply, Call, call_of, Close, due_put, ProducerState, Put}
 use Rattle.ring_core.specs.Puts as puts
 use Rattle.ring_core.specs.Puts.{Full, IsBatch, number_after, Puts, put_program, Stored, stored_in}
-use Rattle.ring_core.specs.Over.{fulls}
 use Rattle.ring_player.specs.Actors.{ArePutsMade, IsAsked, PutActorStands, PutTally, full_in_reply, so_far, stored_in_reply}
-use Rattle.ring_player.specs.Plays.{AreAttempts, ArePutsOf, IsDoneAfter, IsProgram, offered}
-use Rattle.ring_script.specs.Content.{Content}
 use Rattle.ring_script.specs.Script.{Fit}
-use Rattle.ring_core.proofs.Machines.Following.{events_of-append}
-use Rattle.ring_core.proofs.CountRow.{past_is}
 use Rattle.ring_player.proofs.Nexts.{IsNextPut, NextPut as NextOf}
 use Rattle.ring_player.proofs.Moves.{events-more, goes_longer, program_beginning, split_last}
 use Rattle.ring_core.proofs.Readings.ItemsRead.{same_calls}
@@ -119,9 +110,7 @@ pub calls_asked :
     ArePutsOf script more
 calls_asked script (Put items) calls more m (items_are, left) (x, of, more_is, are, o) = record {
   are = are;
-  attempts = subst (λ (t : Puts). AreAttempts script 0 t.puts) (sym more_is)
-      (attempts-more script 0 calls.puts x m left
-      (subst (λ t. IsPutOf script.shape (stored_in 0 calls.puts) t x) items_are (subst (λ t. IsPutOf script.shape t items x) (stored_number script.shape first_count calls.puts) of)));
+  attempts = grind (arith, attempts-more, stored_number);
   closes = λ e. absurd (true_false (sym e ∙ ap (λ (t : Puts). t.closes) more_is));
 }
   where
@@ -342,12 +331,7 @@ new_putting script p is there = record {
   calls = no_puts;
   there = there;
   same_shape = ap (λ (t : ProducerState). t.shape) is;
-  made = record {
-    attempts = tt;
-    counted = refl;
-    filled = refl;
-    long = omega arith;
-  };
+  made = grind arith;
   batched = λ items e. absurd (none_some items (sym none ∙ e));
   asked = subst (λ t. IsAsked script no_puts t) (sym none) closed;
   program = (no_puts, record { are = tt; attempts = tt; closes = closed }, (events_of P (put_program script.shape no_puts), refl));

@@ -1,30 +1,17 @@
 -- What one step of a side does.
 use Rattle.std.proofs.Common.{◌≡◌, ℕ, suc, ◌<◌, Bool, true, false, Option, Some, None, List, [], ◌∷◌, ◌++◌, length, refl, sym, ap, subst, ◌∙◌, append_assoc, append-nil, length-append, arith}
 use Rattle.std.specs.Prelude.{if◌then◌else◌, ◌^◌}
-use Rattle.bits_core.specs.declared.events.Side.{Side}
-use Rattle.bits_core.specs.declared.events.Side.TheVariants.{P, C}
-use Rattle.bits_core.specs.declared.events.Bit.{Bit}
-use Rattle.bits_core.specs.declared.events.Access.{Access}
+use Rattle.ring_player.proofs.Common.{Side, P, C, Bit, Access, ReadEnd, Event, open_access, IsLawful, Shape, modulus_of, so_far, IsMove, IsPlaying, IsProgram, Content, length-events}
 use Rattle.bits_core.specs.declared.events.Access.TheVariants as access
-use Rattle.bits_core.specs.declared.events.Act.TheVariants.{ReadEnd}
-use Rattle.bits_core.specs.declared.events.Event.{Event}
 use Rattle.bits_core.specs.Bits.{begun_by, other}
-use Rattle.bits_core.specs.History.{open_access}
 use Rattle.bits_core.proofs.LawLemmas.{open_changes}
-use Rattle.bits_core.specs.Lawful.{IsLawful}
 use Rattle.bits_core.specs.Made.{Made, Read, answered, end_event, events_of, subhistory}
 use Rattle.bits_core.specs.Open.{bit_of}
-use Rattle.bits_core.specs.declared.shapes.Shape.{Shape}
-use Rattle.bits_core.specs.Shape.{modulus_of}
 use Rattle.register_core.specs.Row.{row_bit}
 use Rattle.register_core.specs.ScanState.{row_read_by, zero_reads}
 use Rattle.ring_core.specs.Calls.{EndsInZeros, LastBitIsDue}
 use Rattle.ring_core.specs.RunLaws.{NeverMisses}
-use Rattle.ring_player.specs.Actors.{so_far, IsMove, IsPlaying}
-use Rattle.ring_player.specs.Plays.{IsProgram}
-use Rattle.ring_script.specs.Content.{Content}
 use Rattle.register_core.proofs.ScanMachine.{length-zeros}
-use Rattle.ring_core.proofs.Machines.Following.{length-events}
 use Rattle.ring_player.proofs.Moves.{by_side, events-more, open_not_done, own_by, own_other, so_far_length}
 use Rattle.ring_audit.proofs.Rooms.{length-own as own-length}
 use Rattle.ring_core.proofs.LawLemmas.{last_bit_is_one_puts, last_bit_is_one_takes}

@@ -1,21 +1,10 @@
 -- What the consumer's actor keeps when an access ends.
 use Rattle.std.proofs.Common.{◌≡◌, ◌⊎◌, inl, inr, ℕ, ◌+◌, ◌<◌, ◌≤◌, Bool, true, false, Option, Some, None, List, [], ◌∷◌, ◌++◌, length, refl, sym, ap, ap₂, subst, ◌∙◌, append-nil, length-append, arith}
-use Rattle.bits_core.specs.declared.events.Side.TheVariants.{C}
-use Rattle.bits_core.specs.declared.events.Access.{Access}
-use Rattle.bits_core.specs.declared.shapes.Shape.{Shape}
-use Rattle.bits_core.specs.Made.{Made, answered, events_of}
-use Rattle.ring_core.specs.declared.replies.TakeBatchReply.{TakeBatchReply}
+use Rattle.ring_player.proofs.Common.{C, Access, Shape, Made, answered, events_of, TakeBatchReply, LastBitIsDue, ConsumerState, due_take, is_taking, empties, Take, take_program, taken_in, Takes}
+use Rattle.ring_player.proofs.Common.{TakeActorStands, IsProgram, wanted_at, Content}
 use Rattle.ring_core.specs.declared.replies.TakeBatchReply.TheVariants as batch
-use Rattle.ring_core.specs.Calls.{LastBitIsDue}
 use Rattle.ring_core.specs.ConsumerCalls.{and_end, and_take, AreItemsOfTake, count_taken, ConsumerStands, HasTakeMore, IsAfterTake, IsReplyToTake, IsTakeOf, items_at_end, reply_at_end, take_batch_reply, take_reply_to, ends_closed}
-use Rattle.ring_core.specs.ConsumerState.{ConsumerState, due_take, is_taking}
 use Rattle.ring_core.specs.Items.{all_taken, taken_of}
-use Rattle.ring_core.specs.Over.{empties}
-use Rattle.ring_core.specs.Takes.{Take, take_program, taken_in, Takes}
-use Rattle.ring_player.specs.Actors.{TakeActorStands}
-use Rattle.ring_player.specs.Plays.{IsProgram}
-use Rattle.ring_player.specs.Wants.{wanted_at}
-use Rattle.ring_script.specs.Content.{Content}
 use Rattle.ring_core.proofs.Machines.TakeCalls.{reply-push, items-push}
 use Rattle.ring_player.proofs.Nexts.{IsNextTake, NextTake as NextOf}
 use Rattle.ring_player.proofs.TakeLists.{empty_in, after_is, all-more, all_are, empties-more, take_of_calls, take_within, taken-more}
@@ -58,8 +47,7 @@ pub ended :
     NextOf p due → due ≡ due_take p → due_take p ≡ Some a → (LastBitIsDue script.shape C (due_take p) → v ≡ true) → HasMovedFrom p p' list a v → p'.shape ≡ p.shape → p'.wanted ≡ p.wanted → (due' : Option Access) → NextOf p' due' →
     Ended script p' taken told empty (list ++ answered a v ∷ []) (reply_of p')
 ended script p p' taken told empty list due a v s next due_is is one moved shape same_wanted due' next' =
-    let n : IsNextTake script.shape (wanted_at script (taken_in 0 s.calls.takes)) s.calls (is_taking p) list (Some a) =
-    subst (λ d. IsNextTake script.shape (wanted_at script (taken_in 0 s.calls.takes)) s.calls (is_taking p) list d) (due_is ∙ is) (next_in script p taken told empty list (Some a) due s next) in
+    let n : IsNextTake script.shape (wanted_at script (taken_in 0 s.calls.takes)) s.calls (is_taking p) list (Some a) = grind (arith, next_in) in
     let one' : LastBitIsDue script.shape C (Some a) → v ≡ true = subst (λ d. LastBitIsDue script.shape C d → v ≡ true) is one in
     let goes : IsProgram script C (events_of C (list ++ answered a v ∷ [])) = goes_on script (is_taking p) s.calls list a v s.takes_are s.asked n one' in
     let (more, there, after) = moved s.calls s.there in
@@ -121,16 +109,13 @@ ended script p p' taken told empty list due a v s next due_is is one moved shape
             let items_are : p'.items ≡ taken_of x = items_is ∙ ap (λ (t : Takes). items_at_end t.end t.takes) more_is ∙ items-push [] s.calls.takes x in
             let reply_here : p'.reply ≡ Some (take_reply_to x) = reply_is ∙ ap (λ (t : Takes). reply_at_end t.end t.takes) more_is ∙ reply-push None s.calls.takes x in
             let answer : reply_of p' ≡ answer_of x = ap₂ take_batch_reply reply_here items_are in
-            let is_of : IsTakeOf script.shape (taken_in 0 s.calls.takes) (wanted_at script (taken_in 0 s.calls.takes)) x =
-            take_of_calls script.shape (wanted_at script (taken_in 0 s.calls.takes)) s.calls x of in
-            let within : length (taken_of x) ≤ wanted_at script (taken_in 0 s.calls.takes) = take_within script.shape (taken_in 0 s.calls.takes) (wanted_at script (taken_in 0 s.calls.takes)) x is_of in
             let kept_here : kept_of (reply_of p') p'.items ≡ taken_of x = ap₂ kept_of answer items_are ∙ kept_is x in (
               stands_over
                   (ap (λ l. taken ++ l) kept_here ∙ ap (λ l. l ++ taken_of x) s.taken_is ∙ sym (all-more s.calls.takes x) ∙ ap (λ (t : Takes). all_taken t.takes) (sym more_is))
                   (ap (λ t. empty + empty_in t) answer ∙ ap (λ t. t + empty_in (answer_of x)) s.empty_is ∙ empties-more s.calls.takes x ∙ ap (λ (t : Takes). empties t.takes) (sym more_is))
                   (ap (λ t. told_by t told) answer ∙ told_so x told ∙ was_open ∙ ap (λ (t : Takes). ends_closed t.end) (sym more_is))
-                  (omega (arith, left, within, ap (λ (t : Takes). taken_in 0 t.takes) more_is, taken-more 0 s.calls.takes x, after_is (taken_in 0 s.calls.takes) x)),
-              omega (arith, ap length kept_here, within, ap (wanted_at script) same_count),
+                  (omega (arith, left, take_within, ap (λ (t : Takes). taken_in 0 t.takes) more_is, taken-more 0 s.calls.takes x, after_is (taken_in 0 s.calls.takes) x)),
+              omega (arith, ap length kept_here, take_within, ap (wanted_at script) same_count),
             )
         by_more (inr (seen, again, more_is)) reply_is items_is =
             let answer : reply_of p' ≡ Some batch.Closed = ap (λ t. take_batch_reply t p'.items) (reply_is ∙ ap (λ (t : Takes). reply_at_end t.end t.takes) more_is) in (

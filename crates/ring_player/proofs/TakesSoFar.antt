@@ -1,20 +1,10 @@
 -- What the consumer's actor has taken in its events so far.
 use Rattle.std.proofs.Common.{◌≡◌, ℕ, ◌+◌, ◌*◌, ◌<◌, ◌≤◌, Bool, true, false, Option, Some, None, List, [], ◌∷◌, ◌++◌, length, refl, sym, ap, subst, ◌∙◌, append-nil, length-append, arith}
-use Rattle.bits_core.specs.declared.events.Side.TheVariants.{C}
-use Rattle.bits_core.specs.declared.events.Access.{Access}
-use Rattle.bits_core.specs.declared.shapes.Shape.{Shape}
-use Rattle.bits_core.specs.Made.{Made, answered, events_of}
+use Rattle.ring_player.proofs.Common.{C, Access, Shape, Made, answered, events_of, ConsumerState, is_taking, first_count, all_taken, Tells, events_in, empties, takes_over, TakeActorStands, so_far}
+use Rattle.ring_player.proofs.Common.{wanted_at, Content, events_of-append, length-events}
 use Rattle.ring_core.specs.ConsumerCalls.{ends_closed}
-use Rattle.ring_core.specs.ConsumerState.{ConsumerState, is_taking}
-use Rattle.ring_core.specs.Counts.{first_count}
-use Rattle.ring_core.specs.Items.{all_taken, Tells, events_in}
-use Rattle.ring_core.specs.Over.{empties, takes_over}
 use Rattle.ring_core.specs.Takes.{AreTakes, Closed, count_after, End, Open, end_phrase, take_phrase, take_phrases, take_program, taken_in, Takes}
-use Rattle.ring_player.specs.Actors.{TakeActorStands, so_far}
-use Rattle.ring_player.specs.Wants.{wanted_at}
 use Rattle.ring_player.specs.SoFar.{TakenSoFar}
-use Rattle.ring_script.specs.Content.{Content}
-use Rattle.ring_core.proofs.Machines.Following.{events_of-append, length-events}
 use Rattle.ring_core.proofs.Machines.TakeCalls.{closed_tells}
 use Rattle.ring_core.proofs.Readings.Over.{calls_all_over, over-under_way, taken-over, takes_total}
 use Rattle.ring_player.proofs.Moves.{begins-trans, no_open, so_far_begins, so_far_length}
@@ -64,11 +54,10 @@ taken_so_far script p taken told empty list o due s next is_due = by_due due is_
     by_due (Some a) f false next = absurd next
     by_due (Some a) f true next =
         let (more, has, (rest, e)) = next true (λ l. refl) in
-        let bounds = so_far_length C list o in
         let longer : length list < length (take_program shape more) = omega (arith, ap length e, length-append (list ++ answered a true ∷ []) rest, length-append list (answered a true ∷ [])) in
         let open_tells_not : told ≡ false = s.told_is ∙ ap ends_closed has.not_over in
         let over_is : takes_over shape first_count more.takes (length (so_far C list o)) ≡ calls.takes =
-        over-under_way shape _ calls more (length (so_far C list o)) has (omega (arith, s.long, program-parts calls, bounds)) (omega (arith, longer, bounds)) in
+        over-under_way shape _ calls more (length (so_far C list o)) has (omega (arith, s.long, program-parts calls, so_far_length)) (omega (arith, longer, so_far_length)) in
         record {
           takes = more;
           are = has.are;
@@ -77,7 +66,7 @@ taken_so_far script p taken told empty list o due s next is_due = by_due due is_
           items = taken-over shape first_count more.takes (length (so_far C list o)) ∙ ap all_taken over_is ∙ sym s.taken_is;
           over = ap empties over_is ∙ sym s.empty_is;
           ended = ap all_taken over_is ∙ sym s.taken_is;
-          tells = (λ t. absurd (true_false (sym t ∙ open_tells_not)), λ t. absurd (omega (arith, t.1, longer, bounds)));
+          tells = (λ t. absurd (true_false (sym t ∙ open_tells_not)), λ t. absurd (omega (arith, t.1, longer, so_far_length)));
         }
       where
         true_false : true ≡ false → ⊥

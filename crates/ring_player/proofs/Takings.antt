@@ -1,19 +1,10 @@
 -- What the consumer's actor does with its machine.
 use Rattle.std.proofs.Common.{◌≡◌, ◌⊎◌, inl, inr, ℕ, ◌*◌, ◌<◌, ◌≤◌, Bool, true, false, Option, Some, None, List, [], ◌∷◌, ◌++◌, length, refl, sym, ap, subst, ◌∙◌, append-nil, arith}
-use Rattle.bits_core.specs.declared.events.Side.TheVariants.{C}
-use Rattle.bits_core.specs.declared.events.Access.{Access}
-use Rattle.bits_core.specs.declared.shapes.Shape.{Shape}
-use Rattle.bits_core.specs.Made.{Made, answered, events_of}
-use Rattle.ring_core.specs.Calls.{LastBitIsDue}
+use Rattle.ring_player.proofs.Common.{C, Access, Shape, Made, answered, events_of, LastBitIsDue, ConsumerState, is_taking, Tells, Closed, End, Open, Take, take_program, taken_after, taken_in, Takes}
+use Rattle.ring_player.proofs.Common.{TakeActorStands, so_far, Content, events_of-append}
 use Rattle.ring_core.specs.ConsumerCalls.{and_end, and_take, count_taken, ConsumerStands, ConsumerHasMoved, HasTakeMore, IsTakeOf, new_consumer, no_takes}
-use Rattle.ring_core.specs.ConsumerState.{ConsumerState, is_taking}
-use Rattle.ring_core.specs.Items.{Tells}
-use Rattle.ring_core.specs.Takes.{Closed, End, Open, Take, take_program, taken_after, taken_in, Takes}
-use Rattle.ring_player.specs.Actors.{TakeActorStands, so_far}
 use Rattle.ring_player.specs.Plays.{AreWantedBy, IsDoneAfter, IsProgram}
 use Rattle.ring_player.specs.Wants.{AreTakesOf, wanted_at}
-use Rattle.ring_script.specs.Content.{Content}
-use Rattle.ring_core.proofs.Machines.Following.{events_of-append}
 use Rattle.ring_player.proofs.Nexts.{IsNextTake, NextTake as NextOf}
 use Rattle.ring_player.proofs.Moves.{events-more, goes_longer, program_beginning, split_last}
 use Rattle.ring_player.proofs.TakeLists.{all_are, taken_rises, take_of_calls}

@@ -1,31 +1,18 @@
 -- What is recorded of a history with one more event, whichever calls it is read as.
 use Rattle.std.proofs.Common.{◌≡◌, ℕ, suc, ◌+◌, ◌<◌, Bool, true, false, if◌then◌else◌, Option, None, List, [], ◌∷◌, ◌++◌, length, refl, sym, ap, ap₂, subst, ◌∙◌, arith, append-nil, append_assoc, length-append}
-use Rattle.std.specs.Prelude.{◌↔◌, replicate}
+use Rattle.ring_player.proofs.Common.{◌↔◌, replicate, Made, IsPrefix, events_of, subhistory, Event, Side, P, C, first_count, all_taken, events_in, IsTold, ToldIn, FollowsTakes, Takes, take_phrases}
+use Rattle.ring_player.proofs.Common.{take_program, IsMove, PutTally, Plays, wanted_at, TakenItems, CallEvent, Content, length-events}
 use Rattle.std.proofs.lemmas.List.{map-append, replicate-append-replicate}
 use Rattle.bits_core.specs.Bits.{is_by, other}
-use Rattle.bits_core.specs.Made.{Made, IsPrefix, events_of, subhistory}
-use Rattle.bits_core.specs.declared.events.Event.{Event}
-use Rattle.bits_core.specs.declared.events.Side.{Side}
-use Rattle.bits_core.specs.declared.events.Side.TheVariants.{P, C}
 use Rattle.queue_calls.specs.Calls as calls
-use Rattle.ring_core.specs.Counts.{first_count}
-use Rattle.ring_core.specs.Items.{all_taken, events_in, IsTold, ToldIn}
 use Rattle.ring_core.specs.Over.{empties, fulls, puts_over, puts_over_in, takes_over, takes_over_in}
 use Rattle.ring_core.specs.Puts.{FollowsPuts, Puts, put_phrase, put_program, stored_after, stored_in}
 use Rattle.ring_core.specs.Recorded.{by_side, calls_told, put_told, take_told}
-use Rattle.ring_core.specs.Takes.{FollowsTakes, Takes, take_phrases, take_program}
-use Rattle.ring_player.specs.Actors.{IsMove, PutTally}
-use Rattle.ring_player.specs.Plays.{Plays}
-use Rattle.ring_player.specs.Wants.{wanted_at}
 use Rattle.ring_player.specs.Tellings.{AreAt, call_events, IsPutStage, IsReadingAsked, IsTakeStage, listed, offers_of, SaysPut, SaysTake, TakeTally, TellsCalls, told_in, wants_of}
 use Rattle.ring_player.specs.declared.tellings.PutStage.{PutStage}
 use Rattle.ring_player.specs.declared.tellings.PutStage.TheVariants as put
-use Rattle.ring_player.specs.declared.tellings.TakenItems.{TakenItems}
 use Rattle.ring_player.specs.declared.tellings.TakeStage.{TakeStage}
 use Rattle.ring_player.specs.declared.tellings.TakeStage.TheVariants as taking
-use Rattle.queue_calls.specs.declared.events.CallEvent.{CallEvent}
-use Rattle.ring_script.specs.Content.{Content}
-use Rattle.ring_core.proofs.Machines.Following.{length-events}
 use Rattle.ring_player.proofs.Moves.{by_side as is_by_side, not_by, own_by, own_other}
 use Rattle.ring_core.proofs.Readings.Over.{front, none_over, puts_total}
 use Rattle.bits_core.proofs.LawLemmas.{subhistory_changes}
@@ -59,8 +46,7 @@ told-more f g p c (x ∷ h) e = by_first (λ a b. told-more f g a b h e) x.side 
         calls_told f g (by_side x.side (suc p) p) (by_side x.side c (suc c)) h ++ last_told f g p (suc c) h e =
         more (by_side x.side (suc p) p) (by_side x.side c (suc c))
         ∙ ap (λ s. calls_told f g (by_side x.side (suc p) p) (by_side x.side c (suc c)) h ++ last_told f g (by_side s (suc p) p) (by_side s c (suc c)) h e) is in
-        let place : last_told f g p (suc c) h e ≡ last_told f g p c (x ∷ h) e =
-        ap₂ (λ (n : ℕ) (m : ℕ). by_side e.side (f n) (g m)) (omega (arith, own_not_first C x h is)) (omega (arith, own_first C x h is)) in
+        let place : last_told f g p (suc c) h e ≡ last_told f g p c (x ∷ h) e = grind (arith, ap₂, own_not_first, own_first) in
         ap (λ l. now ++ l) (later ∙ ap (λ l. calls_told f g (by_side x.side (suc p) p) (by_side x.side c (suc c)) h ++ l) place)
         ∙ sym (append_assoc now (calls_told f g (by_side x.side (suc p) p) (by_side x.side c (suc c)) h) (last_told f g p c (x ∷ h) e))
 

@@ -2,25 +2,16 @@
 use Rattle.std.proofs.Common.{◌≡◌, ℕ, suc, ◌-◌, ◌<◌, List, [], ◌∷◌, ◌++◌, length, take, refl, sym, ap, ap₂, subst, ◌∙◌, arith, append_assoc, length-append}
 use Rattle.std.proofs.Math.Seq.{take-append_seam}
 use Rattle.bits_core.specs.Shape.{batch_of, capacity_of}
-use Rattle.bits_core.specs.declared.events.Event.{Event}
-use Rattle.bits_core.specs.declared.events.Side.{Side}
+use Rattle.ring_player.proofs.Common.{Event, Side, CallEvent, IsTakeOf, Count, first_count, events_in, Tells, IsPlayOf, wanted_at, TakenItems, Content}
 use Rattle.queue_calls.specs.Calls as calls
 use Rattle.queue_calls.specs.Calls.{IsLinearizable}
 use Rattle.queue_calls.specs.Queue.{exactly}
-use Rattle.queue_calls.specs.declared.events.CallEvent.{CallEvent}
-use Rattle.ring_core.specs.ConsumerCalls.{IsTakeOf}
-use Rattle.ring_core.specs.Counts.{Count, first_count}
 use Rattle.ring_core.specs.GoingOn.{AreWanted}
-use Rattle.ring_core.specs.Items.{events_in, Tells}
 use Rattle.ring_core.specs.Puts.{IsPutOf, Put, Puts, number_after, stored_in}
 use Rattle.ring_core.specs.Recorded.{AreOffered, by_side, calls_told, put_told, recorded, take_answer, take_told, told_or_behind}
 use Rattle.ring_core.specs.Takes.{Closed, count_after, End, end_phrase, Open, Take, take_phrase, Takes, taken_after, taken_in}
-use Rattle.ring_player.specs.Headline.{IsPlayOf}
 use Rattle.ring_player.specs.Plays.{AreAttempts, AreWantedBy, offered, Plays}
-use Rattle.ring_player.specs.Wants.{wanted_at}
 use Rattle.ring_player.specs.Tellings.{call_events, IsReadingAsked, offers_of, RecordsPlay, TellsCalls, wants_of}
-use Rattle.ring_player.specs.declared.tellings.TakenItems.{TakenItems}
-use Rattle.ring_script.specs.Content.{Content}
 use Rattle.ring_player.proofs.Puttings.{left_some, stored-more, taken_some}
 use Rattle.ring_player.proofs.TakeBatches.{some_wanted}
 use Rattle.ring_player.proofs.TakeLists.{taken-more}

@@ -1,23 +1,16 @@
 -- What one event of a side records of its calls, by the stage that the side is in and by what is counted about the calls that are over.
 use Rattle.std.proofs.Common.{◌≡◌, ◌⊎◌, inl, inr, ℕ, suc, ◌+◌, ◌-◌, ◌<◌, ◌≤◌, true, List, [], ◌∷◌, ◌++◌, length, take, drop, refl, sym, ap, subst, ◌∙◌, arith, append_assoc, length-append}
 use Rattle.std.proofs.Math.Seq.{drop-append_seam, take-append_seam}
-use Rattle.bits_core.specs.Made.{IsPrefix}
-use Rattle.bits_core.specs.declared.shapes.Shape.{Shape}
+use Rattle.ring_player.proofs.Common.{IsPrefix, Shape, first_count, empties, fulls, puts_over, takes_over, AreAttempts, ArePutsOf, offered, wanted_at, IsPutStage, IsTakeStage, offers_of, wants_of}
+use Rattle.ring_player.proofs.Common.{Content, past_is}
 use Rattle.queue_calls.specs.Calls as calls
-use Rattle.ring_core.specs.Counts.{first_count}
 use Rattle.ring_core.specs.Items.{all_taken, events_in, IsTold, taken_of}
-use Rattle.ring_core.specs.Over.{empties, fulls, puts_over, takes_over}
 use Rattle.ring_core.specs.Puts.{ArePuts, Full, IsPut, number_after, Put, Puts, put_phrases, put_program, close_phrase, Stored, stored_in}
 use Rattle.ring_core.specs.Recorded.{put_answer, take_answer}
 use Rattle.ring_core.specs.RecordedByOne.{events_of_puts, events_of_takes, PutTells, TakeTells}
 use Rattle.ring_core.specs.Takes.{AreTakes, Empty, IsTake, Item, ItemAfterClose, Take, Takes, taken_in}
-use Rattle.ring_player.specs.Plays.{AreAttempts, ArePutsOf, offered}
-use Rattle.ring_player.specs.Wants.{wanted_at}
-use Rattle.ring_player.specs.Tellings.{IsPutStage, IsTakeStage, offers_of, wants_of}
 use Rattle.ring_player.specs.declared.tellings.PutStage.TheVariants as put
 use Rattle.ring_player.specs.declared.tellings.TakeStage.TheVariants as taking
-use Rattle.ring_script.specs.Content.{Content}
-use Rattle.ring_core.proofs.CountRow.{past_is}
 use Rattle.ring_core.proofs.Readings.Over.{over_front}
 use Rattle.ring_player.proofs.Puttings.{fulls-more, stored-more}
 use Rattle.ring_player.proofs.TakeLists.{all-more, all_are, empties-more, take_at}
@@ -110,8 +103,7 @@ module _ (script : Content) (puts : Puts) (i : ℕ) {told : List calls.Event} (a
           (((stored' ≤ stored) × (full < full') × (calls.PutEnd calls.Lacked ∷ [] ≡ told) × IsPutStage put.Between script puts (suc i)) ⊎
           ((stored' ≤ stored) × (full' ≤ full) × ([] ≡ told) × IsPutStage put.Putting script puts (suc i)))
       by_put (Stored seen items) is ends t p =
-          let more : stored' ≡ stored + length items =
-          omega (arith, now_stored, ap (stored_in 0) is, stored-more 0 before (Stored seen items), past_is (stored_in 0 before) items, is_stored) in
+          let more : stored' ≡ stored + length items = grind (arith, stored-more, past_is) in
           inl (omega (arith, more, p.2.some), ap (λ n. calls.PutEnd (calls.Passed n true) ∷ []) (omega (arith, more)) ∙ sym t, sym ends)
       by_put (Full seen) is ends t p = grind (arith, stored-more, fulls-more)
 

@@ -1,15 +1,9 @@
 -- The oracle's answers, with one more event.
-use Rattle.bits_core.specs.Made.{opening_event}
+use Rattle.ring_player.proofs.Common.{opening_event, Side, Bit, ReadEnd, Access, Event, IsAtTurn}
 use Rattle.std.proofs.Common.{◌≡◌, ◌⊎◌, inl, inr, ℕ, zero, suc, ◌+◌, ◌<◌, ◌≤◌, Bool, true, false, Some, List, [], ◌∷◌, ◌++◌, length, refl, ap, sym, ◌∙◌, arith}
 use Rattle.std.specs.Prelude.{slice_get, if◌then◌else◌}
-use Rattle.bits_core.specs.declared.events.Side.{Side}
-use Rattle.bits_core.specs.declared.events.Bit.{Bit}
-use Rattle.bits_core.specs.declared.events.Act.TheVariants.{ReadEnd}
-use Rattle.bits_core.specs.declared.events.Access.{Access}
-use Rattle.bits_core.specs.declared.events.Event.{Event}
 use Rattle.bits_core.specs.History.{is_overlapped}
 use Rattle.bits_core.specs.Memory.{count_below, flicker_count, is_flicker, is_flicker_at}
-use Rattle.ring_player.specs.Actors.{IsAtTurn}
 use Rattle.bits_core.proofs.Flickers.{is_flicker_at-last, flicker_count-push, count_below-same, is_flicker_at-front, slice_get-front}
 use Rattle.bits_core.proofs.Places.{slice_get-last}
 

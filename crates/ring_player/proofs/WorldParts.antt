@@ -1,29 +1,17 @@
 -- The world after a step of one side.
 use Rattle.std.proofs.Common.{◌≡◌, ◌⊎◌, inl, inr, ℕ, ◌+◌, ◌-◌, ◌<◌, ◌≤◌, zero, suc, get_or, min, Bool, true, Option, Some, None, Result, List, [], ◌∷◌, ◌++◌, length, take, drop, append_assoc, append-nil, refl, sym, ap, subst, ◌∙◌, arith}
 use Rattle.std.specs.Prelude.{if◌then◌else◌, IfOk, OnErr, OnOk, ◌↔◌, replicate, slice_index_or}
-use Rattle.bits_core.specs.declared.events.Side.{Side}
-use Rattle.bits_core.specs.declared.events.Side.TheVariants.{P, C}
-use Rattle.bits_core.specs.declared.events.Access.{Access}
-use Rattle.bits_core.specs.declared.events.Event.{Event}
+use Rattle.ring_player.proofs.Common.{Side, P, C, Access, Event, open_access, IsLawful, MemoryState, turn, IsAtTurn, IsMove, IsPlaying, PutTally, so_far, LetterRun, Content, first_count}
+use Rattle.ring_player.proofs.Common.{takes_over_in, FollowsTakes, Takes}
 use Rattle.bits_core.specs.Bits.{begun_by, other}
-use Rattle.bits_core.specs.History.{open_access}
-use Rattle.bits_core.specs.Lawful.{IsLawful}
 use Rattle.bits_core.proofs.LawLemmas.{open_changes}
 use Rattle.bits_core.specs.Made.{clock, IsPrefix, Made, subhistory}
-use Rattle.bits_core.specs.Memory.{MemoryState}
-use Rattle.bits_core.specs.Oracle.{turn}
-use Rattle.ring_player.specs.Actors.{IsAtTurn, IsMove, IsPlaying, PutTally, so_far}
 use Rattle.ring_player.specs.Plays.{AreMoves, IsDone, IsPlayed, IsProgram, Plays, event_sides}
 use Rattle.std.proofs.lemmas.Bool.{cases_lt}
 use Rattle.std.proofs.lemmas.List.{length-append, length-replicate, take_all, take_more, take-append-drop, take-append-le, take-replicate}
 use Rattle.std.proofs.Math.Seq.{take-append-add, take-length}
-use Rattle.ring_script.specs.declared.schedules.LetterRun.{LetterRun}
 use Rattle.ring_script.specs.Schedule.{spelled}
-use Rattle.ring_script.specs.Content.{Content}
-use Rattle.ring_core.specs.Counts.{first_count}
 use Rattle.ring_core.specs.Items.{all_taken, items_put, items_taken, items_taken_in, ToldIn}
-use Rattle.ring_core.specs.Over.{takes_over_in}
-use Rattle.ring_core.specs.Takes.{FollowsTakes, Takes}
 use Rattle.ring_player.specs.Headline.{EveryPlayFills, EveryPlayHolds, HoldsHeadline, IsPlayOf}
 use Rattle.ring_player.specs.SoFar.{PutSoFar, TakenSoFar}
 use Rattle.ring_player.specs.Worlds.{IsWorld, Played}
@@ -49,8 +37,7 @@ playing_other :
     (script : Content) (s : Side) (h h' : List Event) (due : Option Access) (stands : Stands) → Grown script s h h' → IsPlaying (other s) h due stands →
     IsPlaying (other s) h' due stands
 playing_other script s h h' due stands (inl (e, is, by, n)) p =
-    let open_same : open_access (other s) (h ++ e ∷ []) ≡ open_access (other s) h =
-    open_changes (other s) h e ∙ ap (λ t. if t then begun_by e else open_access (other s) h) (not_by s e by) in
+    let open_same : open_access (other s) (h ++ e ∷ []) ≡ open_access (other s) h = grind (arith, open_changes, not_by) in
     grind (arith, own_other)
 playing_other script s h h' due stands (inr is) p = subst (λ (t : List Event). IsPlaying (other s) t due stands) (sym is) p
 

@@ -2,25 +2,17 @@
 use Rattle.std.proofs.Common.{◌≡◌, ℕ, ◌+◌, ◌-◌, ◌*◌, ◌/◌, ◌%◌, ◌<◌, ◌≤◌, Bool, true, false, cond, Option, Some, None, List, [], ◌∷◌, ◌++◌, length, take, drop, refl, sym, ap, ap₂, subst, ◌∙◌, append_assoc, append-nil, length-append, arith}
 use Rattle.std.specs.Prelude.{nat_lt}
 use Rattle.std.proofs.lemmas.Bool.{ltb-false}
-use Rattle.bits_core.specs.declared.events.Side.TheVariants.{P}
-use Rattle.bits_core.specs.declared.events.Access.{Access}
+use Rattle.ring_player.proofs.Common.{P, Access, Shape, batch_of, modulus_of, width_of, fulls, puts_over, Content, AreAttempts, ArePutsOf, offered, events_of-append, length-events, past_is}
 use Rattle.bits_core.specs.declared.events.Bit.TheVariants as bit
-use Rattle.bits_core.specs.declared.shapes.Shape.{Shape}
-use Rattle.bits_core.specs.Shape.{batch_of, modulus_of, width_of}
 use Rattle.bits_core.specs.Made.{Made, Read, Write, answered, events_of, IsPrefix, opening_event}
 use Rattle.ring_core.specs.Counts.{batch_phrase, Count, first_count}
 use Rattle.ring_core.specs.Items.{all_put, events_in, items_put}
-use Rattle.ring_core.specs.Over.{fulls, puts_over}
 use Rattle.ring_core.specs.ProducerCalls.{HasCallMore, room_in}
 use Rattle.ring_core.specs.ProducerState.{Call, call_of, Close, ProducerState, Put}
 use Rattle.ring_core.specs.Puts as puts
 use Rattle.ring_core.specs.Puts.{accesses_before_count, ArePuts, close_phrase, Full, put_phrase, put_phrases, put_program, Puts, Stored, stored_after, stored_in}
-use Rattle.ring_script.specs.Content.{Content}
 use Rattle.ring_player.specs.Actors.{digits_by, digits_in, HasWritten, IsAsked, PutActorStands, items_begun, put_once, PutTally, so_far, with_open}
-use Rattle.ring_player.specs.Plays.{AreAttempts, ArePutsOf, offered}
 use Rattle.ring_player.specs.SoFar.{PutSoFar}
-use Rattle.ring_core.proofs.Machines.Following.{events_of-append, length-events}
-use Rattle.ring_core.proofs.CountRow.{past_is}
 use Rattle.ring_core.proofs.Readings.Over.{calls_all_over, calls_cut_over, puts_total}
 use Rattle.ring_player.proofs.Headlines.{drop-drop, parts}
 use Rattle.ring_player.proofs.Moves.{begins-trans, no_open, so_far_begins, so_far_length}
@@ -202,8 +194,7 @@ put_so_far script p kept digits put list o due s h next is_due = by_due due is_d
         let (more, has, (rest, e)) = next true (λ l. refl) in
         let longer : length list < length (put_program shape more) = omega (arith, ap length e, length-append (list ++ answered a true ∷ []) rest, length-append list (answered a true ∷ [])) in
         let whole : IsPrefix (list ++ answered a true ∷ []) (put_program shape more) = (rest, e) in
-        let whole_events : IsPrefix (events_of P (list ++ answered a true ∷ [])) (events_of P (put_program shape more)) =
-        (events_of P rest, sym (events_of-append P (list ++ answered a true ∷ []) rest) ∙ ap (events_of P) e) in
+        let whole_events : IsPrefix (events_of P (list ++ answered a true ∷ [])) (events_of P (put_program shape more)) = grind (arith, events_of-append P (list ++ answered a true ∷ []) rest) in
         reading_so_far script digits put kept list o h more (calls_asked script c calls more s.made.attempts asked has)
         (begins-trans (with_open list o) (list ++ answered a true ∷ []) (put_program shape more) (open_begins o a f) whole)
         (begins-trans (so_far P list o) (events_of P (list ++ answered a true ∷ [])) (events_of P (put_program shape more)) (so_far_begins P list o a true f) whole_events)

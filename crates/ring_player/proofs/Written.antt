@@ -3,21 +3,16 @@ use Rattle.std.proofs.Common.{◌≡◌, ◌⊎◌, inl, inr, ℕ, zero, suc, �
 use Rattle.std.specs.Prelude.{nat_lt}
 use Rattle.std.proofs.lemmas.Bool.{lt-ltb, le-ltb}
 use Rattle.std.proofs.Math.Nat.{add-mul, mul-div_cancel}
-use Rattle.bits_core.specs.declared.events.Side.TheVariants.{P}
-use Rattle.bits_core.specs.declared.events.Bit.{Bit}
+use Rattle.ring_player.proofs.Common.{P, Bit, Shape, width_of, events_in, items_put, past_is}
 use Rattle.bits_core.specs.declared.events.Bit.TheVariants as bit
-use Rattle.bits_core.specs.declared.shapes.Shape.{Shape}
-use Rattle.bits_core.specs.Shape.{width_of}
 use Rattle.bits_core.specs.Made.{Made, Read, Write, IsPrefix}
 use Rattle.bits_core.proofs.Places.{prefix_no_longer}
 use Rattle.register_core.specs.Row.{RowWrite, row_bit, writes_in}
 use Rattle.register_core.specs.ScanState.{scan_phrase, row_read_by, zero_reads}
 use Rattle.register_core.specs.Word.{digit_writes}
 use Rattle.ring_core.specs.Counts.{Count, batch_phrase, count_bits, IsCount}
-use Rattle.ring_core.specs.Items.{events_in, items_put}
 use Rattle.ring_core.specs.Puts.{ArePuts, Full, Put, Stored, close_phrase, put_phrases, stored_after, words_phrase}
 use Rattle.ring_player.specs.Actors.{digits_in, items_begun}
-use Rattle.ring_core.proofs.CountRow.{past_is}
 use Rattle.ring_core.proofs.Cells.WordPlaces.{writes-append as map-append}
 pub use Rattle.ring_core.proofs.Readings.ItemsRead.{none_put as put_nothing}
 use Rattle.ring_core.proofs.LawLemmas.{counts_are_written_numbers, counts_are_written_written}
@@ -262,10 +257,9 @@ put_begun shape c (Stored u items ∷ puts) close made t is p begins low high =
         not_begun (subst NoCounts (sym all) quiet) (omega (arith, low, ap length all))
     by_rows more made_is r (v ∷ vs) more_is =
         let size : length made ≡ length front + length more = ap length made_is ∙ length-append front more in
-        let short : length more ≤ length batch = prefix_no_longer more batch r in
         let some : 1 ≤ length more = omega (arith, ap length more_is) in
         let nothing : c.number + length items ≡ c.number + (length items + 0) = omega arith in
-        begun_here more made_is some [] (later (omega (arith, low, size, short))) (c.number + length items)
+        begun_here more made_is some [] (later (omega (arith, low, size, prefix_no_longer more batch r))) (c.number + length items)
         (ap (items_begun w (c.number * w + digits_in front) (items_begun w (c.number * w) c.number front)) more_is
         ∙ count_begun w (c.number * w + digits_in front) (items_begun w (c.number * w) c.number front) (v ∷ vs) (omega (arith, ap length more_is, some)) ∙ whole)
         nothing

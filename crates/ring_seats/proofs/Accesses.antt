@@ -1,21 +1,10 @@
 -- A complete access of an end: two steps of its seat.
 use Rattle.std.proofs.Common.{arith, ◌≡◌, ℕ, Bool, true, false, Option, None, List, [], ◌∷◌, ◌++◌, ap, sym, subst, ◌∙◌}
-use Rattle.atomic_table.specs.Table.{Me}
-use Rattle.bits_core.specs.declared.events.Side.{Side}
-use Rattle.bits_core.specs.declared.events.Bit.{Bit}
-use Rattle.bits_core.specs.declared.events.Act.{Act}
-use Rattle.bits_core.specs.declared.events.Act.TheVariants.{ReadBegin, ReadEnd, WriteBegin, WriteEnd}
-use Rattle.bits_core.specs.declared.events.Access.{Access}
+use Rattle.ring_seats.proofs.Common.{Me, Side, Bit, Act, ReadBegin, ReadEnd, WriteBegin, WriteEnd, Access, Event, Shape, open_access, Ring, RingEnd, View, Stands, event, list_of, may_step}
+use Rattle.ring_seats.proofs.Common.{answer_of}
 use Rattle.bits_core.specs.declared.events.Access.TheVariants.{Read, Write}
-use Rattle.bits_core.specs.declared.events.Event.{Event}
 use Rattle.bits_core.specs.Bits.{begun_access, other}
-use Rattle.bits_core.specs.declared.shapes.Shape.{Shape}
-use Rattle.bits_core.specs.History.{open_access}
-use Rattle.ring_seats.specs.Ring.{Ring, RingEnd}
-use Rattle.ring_seats.specs.declared.views.View.{View}
-use Rattle.ring_seats.specs.Rule.{Stands, event, list_of, may_step}
 use Rattle.ring_seats.proofs.Grown.{Added, and_event}
-use Rattle.ring_seats.specs.Words.{answer_of}
 use Rattle.ring_seats.specs.Steppers.{Grows, HasMade}
 use Rattle.ring_seats.proofs.Moves.{list_of-mine, may_step-more, opened_by}
 

@@ -1,15 +1,7 @@
 -- What reads returned, step by step.
 use Rattle.std.proofs.Common.{◌≡◌, ℕ, ◌+◌, Bool, true, false, List, [], ◌∷◌, ◌++◌, refl, ap, sym, ◌∙◌, arith, append_assoc, append-nil, add-zero}
-use Rattle.std.specs.Prelude.{if◌then◌else◌}
-use Rattle.bits_core.specs.declared.events.Side.{Side}
-use Rattle.bits_core.specs.declared.events.Bit.{Bit}
-use Rattle.bits_core.specs.declared.events.Act.{Act}
-use Rattle.bits_core.specs.declared.events.Act.TheVariants.{ReadEnd}
-use Rattle.bits_core.specs.declared.events.Event.{Event}
-use Rattle.ring_seats.specs.Ring.{Ring, RingEnd}
-use Rattle.ring_seats.specs.declared.views.View.{View}
+use Rattle.ring_seats.proofs.Common.{if◌then◌else◌, Side, Bit, Act, ReadEnd, Event, Ring, RingEnd, View, event}
 use Rattle.ring_seats.specs.declared.views.Loads.{Loads}
-use Rattle.ring_seats.specs.Rule.{event}
 use Rattle.ring_seats.proofs.Grown.{and_event, kept_loads}
 use Rattle.ring_seats.specs.Words.{agrees, answer_of}
 use Rattle.ring_seats.specs.Steppers.{AreAnswered, IsAskedOnce, and_answer, answers_by, answers_in, asks_of_all, asks_of}

@@ -1,23 +1,13 @@
 -- Complete accesses in a quiet moment: what they may return, and what the bits hold after them.
 use Rattle.std.proofs.Common.{arith, ◌≡◌, Bool, true, false, Some, None, List, [], ◌∷◌, ◌++◌, refl, ap, sym, subst, ◌∙◌, append_assoc, append-nil}
-use Rattle.std.specs.Prelude.{if◌then◌else◌, unwrap_or}
+use Rattle.ring_seats.proofs.Common.{if◌then◌else◌, unwrap_or, Side, Bit, Event, Shape, IsLawful, MayFollow, IsOpenRight, Follows, IsRing, value_left, held_changes}
 use Rattle.std.proofs.lemmas.List.Elements.{filter_map-append}
-use Rattle.bits_core.specs.declared.events.Side.{Side}
-use Rattle.bits_core.specs.declared.events.Bit.{Bit}
-use Rattle.bits_core.specs.declared.events.Event.{Event}
-use Rattle.bits_core.specs.declared.shapes.Shape.{Shape}
 use Rattle.bits_core.specs.Bits.{other, writer, same_side, same_bit, is_by, value_written}
 use Rattle.bits_core.specs.History.{open_access, held, last_value}
-use Rattle.bits_core.specs.Lawful.{IsLawful}
-use Rattle.bits_core.specs.Steps.{MayFollow}
-use Rattle.bits_core.specs.Open.{IsOpenRight}
 use Rattle.bits_core.specs.Made.{Made, Read, Write, access_of, begin_event, end_event, events_of, subhistory}
-use Rattle.ring_seats.specs.Programs.{Follows, IsRing}
-use Rattle.ring_seats.specs.Counters.{value_left}
 use Rattle.ring_seats.proofs.Histories.{by_case, same_side-true, either_side, before_last-mine, own-mine, own-theirs, open-mine, open-theirs}
 use Rattle.ring_seats.proofs.Rights.{AllRight}
 use Rattle.ring_seats.proofs.Moves.{ring_more}
-use Rattle.bits_core.proofs.LawLemmas.{held_changes}
 use Rattle.bits_core.proofs.MadeLemmas.{begin_begins as begun_begin, begin_by as begin_side, end_begins_none as begun_end}
 pub use Rattle.bits_core.proofs.OwnOpen.{by_end}
 pub use Rattle.ring_core.proofs.Machines.Following.{events_of-append}
@@ -140,8 +130,7 @@ module _ (shape : Shape) (x : Side) where
       let h1 : List Event = h ++ e1 ∷ [] in
       let h2 : List Event = h1 ++ e2 ∷ [] in
       let list : List Event = subhistory x h in
-      let whole : list ++ (e1 ∷ e2 ∷ events_of x made) ≡ ((list ++ e1 ∷ []) ++ e2 ∷ []) ++ events_of x made =
-      sym (append_assoc list (e1 ∷ []) (e2 ∷ events_of x made)) ∙ sym (append_assoc (list ++ e1 ∷ []) (e2 ∷ []) (events_of x made)) in
+      let whole : list ++ (e1 ∷ e2 ∷ events_of x made) ≡ ((list ++ e1 ∷ []) ++ e2 ∷ []) ++ events_of x made = grind (arith, append_assoc) in
       let f2 : Follows shape x (((list ++ e1 ∷ []) ++ e2 ∷ []) ++ events_of x made) = subst (Follows shape x) whole f in
       let f1 : Follows shape x ((list ++ e1 ∷ []) ++ e2 ∷ []) = follows_shorter shape x ((list ++ e1 ∷ []) ++ e2 ∷ []) (events_of x made) f2 in
       let f0 : Follows shape x (list ++ e1 ∷ []) = follows_shorter shape x (list ++ e1 ∷ []) (e2 ∷ []) f1 in

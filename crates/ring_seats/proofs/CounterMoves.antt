@@ -4,27 +4,12 @@ use Rattle.std.proofs.lemmas.Bool.Decides.{nat_tests}
 use Rattle.std.proofs.lemmas.List.{length-replicate, get_or-replicate}
 use Rattle.std.proofs.lemmas.Nat.{pow_pos}
 use Rattle.std.proofs.lemmas.Bool.{cases_eq}
-use mathlib.Core.Option.{some}
-use lib.ListN.{get_elem?}
+use Rattle.ring_seats.proofs.Common.{some, get_elem?, Shape, Side, P, C, Bit, X, Cell, Event, capacity_of, modulus_of, width_of, other, writer, same_bit, held, RowWrite, row_bit, writes_in}
+use Rattle.ring_seats.proofs.Common.{unary_phrase, digit, digit_writes, digit_reads, word_write, word_read, zero_reads, scan_phrase, row_read_by, View, Follows, IsRing}
 use Rattle.atomic_table.specs.Table.{Me, keeps, opening, Allows}
 use Rattle.atomic_table.proofs.Lists.{at_set}
-use Rattle.bits_core.specs.declared.shapes.Shape.{Shape}
-use Rattle.bits_core.specs.declared.events.Side.{Side}
-use Rattle.bits_core.specs.declared.events.Side.TheVariants.{P, C}
-use Rattle.bits_core.specs.declared.events.Bit.{Bit}
-use Rattle.bits_core.specs.declared.events.Bit.TheVariants.{X, Cell}
-use Rattle.bits_core.specs.declared.events.Event.{Event}
-use Rattle.bits_core.specs.Shape.{capacity_of, modulus_of, width_of}
-use Rattle.bits_core.specs.Bits.{other, writer, same_bit}
-use Rattle.bits_core.specs.History.{held}
 use Rattle.bits_core.specs.Made.{Made, Read, Write, events_of, subhistory, IsPrefix}
-use Rattle.register_core.specs.Row.{RowWrite, row_bit, writes_in}
-use Rattle.register_core.specs.Unary.{unary_phrase}
-use Rattle.register_core.specs.Word.{digit, digit_writes, digit_reads, word_write, word_read}
-use Rattle.register_core.specs.ScanState.{zero_reads, scan_phrase, row_read_by}
-use Rattle.ring_seats.specs.declared.views.View.{View}
 use Rattle.ring_seats.specs.Words as bits
-use Rattle.ring_seats.specs.Programs.{Follows, IsRing}
 use Rattle.ring_seats.specs.Rule.{joint, may_step, list_of, SeatKnows, SeatsKnow}
 use Rattle.ring_seats.specs.Counters.{count_place, their_place, cell_place, words_of, first_counts, value_left, unary_over, IsLastCount, IsLastItem, ShowsWords, KeptWords}
 use Rattle.ring_seats.proofs.Grown.{and_events, AddedAll, TellsNothing, IsBelow}
@@ -118,12 +103,7 @@ module _ (shape : Shape) where
           view = refl;
           carried = refl;
           tells = g.tells;
-          stands = record {
-            history = h ++ es;
-            ring = blocked.quiet.ring;
-            list_is = blocked.mine ∙ (ap (λ (l : List Event). l ++ es) (sym fits.list) ∙ sym (list_of-more x es me.0));
-            begins = subst (λ (l : List Event). IsPrefix l (h ++ es)) (sym fits.known_is) begins;
-          };
+          stands = grind (arith, list_of-more);
         },
       )
 

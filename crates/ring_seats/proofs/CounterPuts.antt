@@ -1,26 +1,15 @@
 -- The puts of a counter ring, from their lists.
 use Rattle.std.proofs.Common.{rules, ◌≡◌, ℕ, zero, suc, ◌+◌, ◌%◌, ◌^◌, ◌<◌, ◌≤◌, Bool, true, false, List, [], ◌∷◌, ◌++◌, length, take, slice_index, refl, ap, sym, subst, ◌∙◌, arith, append_assoc, append-nil}
-use Rattle.std.proofs.Math.Nat.{suc-mod}
+use Rattle.ring_seats.proofs.Common.{suc-mod, Shape, Side, P, Bit, X, Cell, Event, AllFit, capacity_of, modulus_of, width_of, first_value, digit_writes, word_write, zero_reads, scan_phrase}
+use Rattle.ring_seats.proofs.Common.{row_read_by, Follows, value_left, unary_over}
 use native.Mathlib.Decide.{dec_lt}
-use Rattle.bits_core.specs.declared.shapes.Shape.{Shape}
-use Rattle.bits_core.specs.declared.events.Side.{Side}
-use Rattle.bits_core.specs.declared.events.Side.TheVariants.{P}
-use Rattle.bits_core.specs.declared.events.Bit.{Bit}
-use Rattle.bits_core.specs.declared.events.Bit.TheVariants.{X, Cell}
-use Rattle.bits_core.specs.declared.events.Event.{Event}
-use Rattle.bits_core.specs.Shape.{AllFit, capacity_of, modulus_of, width_of}
-use Rattle.bits_core.specs.Bits.{first_value}
 use Rattle.bits_core.specs.Made.{Made, Read, Write, events_of, IsPrefix}
 use Rattle.register_core.specs.Row.{row_bit, first_bits}
-use Rattle.register_core.specs.Word.{digit_writes, word_write}
-use Rattle.register_core.specs.ScanState.{zero_reads, scan_phrase, row_read_by}
 use Rattle.ring_core.specs.Counts.{Count, first_count, number_past, count_bits, batch_phrase, LeavesRoom, LeavesRoomFor}
 use Rattle.ring_core.specs.Puts.{Put, Stored, Full, Puts, stored_after, stored_count, words_phrase, put_phrase, put_phrases, close_phrase, put_program, IsPut, IsBatch}
 use Rattle.ring_core.specs.ProducerCalls.{count_of, and_put, and_close}
 use Rattle.ring_core.specs.OneCallMore.{HasPutMore}
-use Rattle.ring_seats.specs.Programs.{Follows}
 use Rattle.ring_seats.specs.Calls.{HasPuts}
-use Rattle.ring_seats.specs.Counters.{value_left, unary_over}
 use Rattle.ring_seats.proofs.Blocks.{after, after-append, left_by-made, events_of-append}
 use Rattle.ring_seats.proofs.LastWrites.{Spares, spares-append, spares_writes, spared_bits, row_written, row_tells}
 use Rattle.ring_core.proofs.LawLemmas.{programs_by_one_call_closes, programs_by_one_call_puts}

@@ -1,22 +1,10 @@
 -- The steps of an end of a counter ring, one after the other: its stores of several items, and its loads.
 use Rattle.std.proofs.Common.{◌≡◌, ℕ, suc, ◌+◌, ◌%◌, ◌<◌, List, [], ◌∷◌, ◌++◌, length, take, slice_index, ap, sym, subst, ◌∙◌, arith, append_assoc, ◌^◌, length-append}
-use Rattle.std.proofs.Math.Nat.{suc-mod}
-use Rattle.bits_core.specs.declared.shapes.Shape.{Shape}
-use Rattle.bits_core.specs.declared.events.Side.{Side}
-use Rattle.bits_core.specs.declared.events.Side.TheVariants.{P, C}
-use Rattle.bits_core.specs.declared.events.Event.{Event}
-use Rattle.bits_core.specs.Shape.{capacity_of, width_of, AllFit}
-use Rattle.bits_core.specs.Made.{Made, events_of}
-use Rattle.register_core.specs.Word.{word_write, word_read}
-use Rattle.ring_core.specs.Puts.{words_phrase}
-use Rattle.ring_seats.specs.Ring.{Ring, RingEnd}
-use Rattle.ring_seats.specs.Programs.{Follows}
+use Rattle.ring_seats.proofs.Common.{suc-mod, Shape, Side, P, C, Event, capacity_of, width_of, AllFit, Made, events_of, word_write, word_read, words_phrase, Ring, RingEnd, Follows, Stands, GrowsBy}
+use Rattle.ring_seats.proofs.Common.{words_read}
 use Rattle.ring_seats.specs.Steppers.{IsSameEnd, StandsAs}
-use Rattle.ring_seats.specs.Rule.{Stands}
-use Rattle.ring_seats.specs.Counters.{GrowsBy}
 use Rattle.ring_seats.proofs.Blocks.{follows_shorter, events_of-append}
 use Rattle.ring_seats.proofs.CounterPuts.{words_more, words_begin}
-use Rattle.ring_core.specs.Takes.{words_read}
 use Rattle.ring_core.proofs.LawLemmas.{words_by_one_more_fit, words_by_one_more_go_on, words_by_one_more_words}
 
 pub same_shape : (a b : RingEnd) → IsSameEnd a b → b.ring.shape ≡ a.ring.shape

@@ -1,26 +1,15 @@
 -- The takes of a counter ring, from their lists.
 use Rattle.std.proofs.Common.{rules, ◌≡◌, ℕ, zero, suc, ◌%◌, ◌<◌, Bool, true, false, List, [], ◌∷◌, ◌++◌, length, refl, ap, sym, subst, ◌∙◌, arith, append_assoc, append-nil}
-use Rattle.std.proofs.Math.Nat.{suc-mod}
+use Rattle.ring_seats.proofs.Common.{suc-mod, Shape, C, Bit, X, Cell, Event, capacity_of, modulus_of, width_of, first_value, row_bit, digit, digit_reads, word_read, scan_phrase, row_read_by}
+use Rattle.ring_seats.proofs.Common.{Follows, value_left, unary_over}
 use Rattle.std.proofs.lemmas.Nat.{pow_pos}
-use Rattle.bits_core.specs.declared.shapes.Shape.{Shape}
-use Rattle.bits_core.specs.declared.events.Side.TheVariants.{C}
-use Rattle.bits_core.specs.declared.events.Bit.{Bit}
-use Rattle.bits_core.specs.declared.events.Bit.TheVariants.{X, Cell}
-use Rattle.bits_core.specs.declared.events.Event.{Event}
-use Rattle.bits_core.specs.Shape.{capacity_of, modulus_of, width_of}
-use Rattle.bits_core.specs.Bits.{first_value}
 use Rattle.bits_core.specs.Made.{Made, Read, events_of}
-use Rattle.register_core.specs.Row.{row_bit}
-use Rattle.register_core.specs.Word.{digit, digit_reads, word_read}
-use Rattle.register_core.specs.ScanState.{scan_phrase, row_read_by}
 use Rattle.ring_core.specs.Counts.{ShowsItem, number_past, Count, first_count, count_bits, batch_phrase}
 use Rattle.ring_core.specs.Takes.{Take, Item, ItemAfterClose, Empty, End, Open, Closed, Takes, taken_after, count_after, taken_count, words_read, items_phrase, take_phrase, take_phrases, end_phrase, take_program, SeesItems, SeesNone, IsTakeBatch, IsTake}
 use Rattle.ring_core.specs.ConsumerCalls.{count_taken, and_take, and_end, IsTakeOf, Finding, Once, Twice, finding_phrase, Finds}
 use Rattle.ring_core.specs.OneCallMore.{HasOneTakeMore, HasEndMore}
 use Rattle.ring_core.proofs.Machines.TakeCalls.{take_of, take_of-is, take_of-phrase}
-use Rattle.ring_seats.specs.Programs.{Follows}
 use Rattle.ring_seats.specs.Calls.{HasTakes}
-use Rattle.ring_seats.specs.Counters.{value_left, unary_over}
 use Rattle.ring_seats.proofs.Blocks.{after}
 use Rattle.ring_seats.proofs.LastWrites.{Spares, spares-append, row_written, row_tells}
 use Rattle.ring_seats.proofs.CounterPuts.{RowIs, begins, counted, makes, scan_spares, first_row, row_spared, row_both, row_calls, row_left}

@@ -1,11 +1,6 @@
 -- The history determines the words of a counter ring, and complete calls determine those of its counts.
 use Rattle.std.proofs.Common.{◌≡◌, ℕ, zero, suc, ◌+◌, ◌%◌, ◌<◌, Bool, List, [], ◌∷◌, length, slice_index, sym, ◌∙◌, arith, length-append}
-use Rattle.bits_core.specs.declared.shapes.Shape.{Shape}
-use Rattle.bits_core.specs.declared.events.Side.{Side}
-use Rattle.bits_core.specs.declared.events.Side.TheVariants.{P, C}
-use Rattle.bits_core.specs.declared.events.Event.{Event}
-use Rattle.bits_core.specs.Shape.{capacity_of, modulus_of, width_of}
-use Rattle.bits_core.specs.Made.{subhistory}
+use Rattle.ring_seats.proofs.Common.{Shape, Side, P, C, Event, capacity_of, modulus_of, width_of, subhistory}
 use Rattle.ring_core.specs.Counts.{Count, IsCount, first_count}
 use Rattle.ring_core.specs.Items.{all_put, all_taken}
 use Rattle.ring_core.specs.ConsumerCalls as takes

@@ -1,17 +1,7 @@
 -- What a step of a seat adds to its view, as the loops of the steps keep it.
 use Rattle.std.specs.Prelude.{◌≡◌, ℕ, ◌<◌, Bool, true, false, List, [], ◌∷◌, ◌++◌}
-use Rattle.atomic_table.specs.Table.{Me}
-use Rattle.bits_core.specs.declared.shapes.Shape.{Shape}
-use Rattle.bits_core.specs.declared.events.Side.{Side}
-use Rattle.bits_core.specs.declared.events.Side.TheVariants.{P, C}
-use Rattle.bits_core.specs.declared.events.Act.{Act}
-use Rattle.bits_core.specs.declared.events.Act.TheVariants.{ReadBegin, ReadEnd, WriteBegin, WriteEnd}
-use Rattle.bits_core.specs.declared.events.Event.{Event}
-use Rattle.bits_core.specs.Bits.{same_side}
-use Rattle.bits_core.specs.Made.{Made, events_of}
+use Rattle.ring_seats.proofs.Common.{Me, Shape, Side, P, C, Act, ReadBegin, ReadEnd, WriteBegin, WriteEnd, Event, same_side, Made, events_of, View, Stands, list_of}
 use Rattle.ring_seats.specs.declared.views.Loads.{Loads}
-use Rattle.ring_seats.specs.declared.views.View.{View}
-use Rattle.ring_seats.specs.Rule.{Stands, list_of}
 
 -- the first load of the open read after an event
 abbrev pub kept_load : Act → ℕ → ℕ → ℕ

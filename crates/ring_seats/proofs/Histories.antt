@@ -1,21 +1,11 @@
 -- What histories of bits say about a side and a bit's word, event by event.
 use Rattle.std.proofs.Common.{arith, rules, ◌≡◌, ◌⊎◌, ℕ, Bool, true, false, Option, Some, None, List, [], ◌∷◌, ◌++◌, ap, ◌∙◌}
-use Rattle.std.specs.Prelude.{unwrap_or, if◌then◌else◌}
-use Rattle.bits_core.specs.declared.events.Side.{Side}
-use Rattle.bits_core.specs.declared.events.Bit.{Bit}
-use Rattle.bits_core.specs.declared.events.Act.{Act}
-use Rattle.bits_core.specs.declared.events.Act.TheVariants.{ReadBegin, ReadEnd, WriteBegin, WriteEnd}
-use Rattle.bits_core.specs.declared.events.Access.{Access}
+use Rattle.ring_seats.proofs.Common.{unwrap_or, if◌then◌else◌, Side, Bit, Act, ReadBegin, ReadEnd, WriteBegin, WriteEnd, Access, Event, Shape, IsLawful, subhistory, event}
 use Rattle.bits_core.specs.declared.events.Access.TheVariants.{Write}
-use Rattle.bits_core.specs.declared.events.Event.{Event}
-use Rattle.bits_core.specs.declared.shapes.Shape.{Shape}
 use Rattle.bits_core.specs.Bits.{other, writer, reader, same_side, same_bit, is_by, begun_by, write_of, value_written}
 use Rattle.bits_core.specs.History.{before_last, open_access, open_write, held}
-use Rattle.bits_core.specs.Lawful.{IsLawful}
 use Rattle.bits_core.specs.Steps.{MayFollow, IsAnswer}
-use Rattle.bits_core.specs.Made.{subhistory}
 use Rattle.ring_seats.specs.Words.{value_word, word_shown, shown, answer_of}
-use Rattle.ring_seats.specs.Rule.{event}
 use Rattle.bits_core.proofs.LawLemmas.{before_last_changes, held_changes, open_changes, open_write_changes, quiet_is_held, subhistory_changes}
 pub use Rattle.bits_core.proofs.Histories.{before_last-not as before_last-theirs}
 pub use Rattle.bits_core.proofs.IntervalLemmas.{same_bit-same}

@@ -3,14 +3,8 @@ use Rattle.std.proofs.Common.{arith, ◌≡◌, ℕ, zero, suc, List, [], ◌∷
 use Rattle.std.proofs.lemmas.List.{append_cancel_left}
 use Rattle.std.proofs.lemmas.List.Elements.{filter-append}
 use mathlib.Core.Option.{some, some-injective, some-ne-none}
-use lib.ListN.{get_elem?}
+use Rattle.ring_seats.proofs.Common.{get_elem?, Shape, P, C, Event, subhistory, IsPrefix, View, KeptBy, SeatKnows}
 use Rattle.atomic_table.specs.Table.{Final, Seen}
-use Rattle.bits_core.specs.declared.shapes.Shape.{Shape}
-use Rattle.bits_core.specs.declared.events.Side.TheVariants.{P, C}
-use Rattle.bits_core.specs.declared.events.Event.{Event}
-use Rattle.bits_core.specs.Made.{subhistory, IsPrefix}
-use Rattle.ring_seats.specs.declared.views.View.{View}
-use Rattle.ring_seats.specs.Rule.{KeptBy, SeatKnows}
 use Rattle.ring_seats.specs.Meetings.{KnowsAll}
 
 -- the word found at a place

@@ -1,3 +1,4 @@
+pub mod Common
 pub mod Accesses
 pub mod Answered
 pub mod Blocks

@@ -1,30 +1,13 @@
 -- Each step preserves the rule of the ring.
 use Rattle.std.proofs.Common.{arith, rules, ◌≡◌, ◌≢◌, ℕ, zero, suc, Bool, true, false, true≢false, ◌⊎◌, List, [], ◌∷◌, ◌++◌, length, get_or, set, slice_index, Some, None, sym, refl, ap, ◌∙◌, subst, inl, inr, ⊎_elim, append_assoc, append-nil, length-set, get_or-set_same, get_or-set_other}
-use Rattle.std.specs.Prelude.{if◌then◌else◌}
-use Rattle.std.proofs.lemmas.List.{length-replicate}
+use Rattle.ring_seats.proofs.Common.{if◌then◌else◌, length-replicate, get_elem?, Shape, Side, P, C, Bit, Act, ReadBegin, ReadEnd, WriteBegin, WriteEnd, Access, Event, belongs, other, writer, reader}
+use Rattle.ring_seats.proofs.Common.{same_bit, open_access, IsLawful, MayFollow, subhistory, IsPrefix, View, Follows, IsRing, GoesOn}
 use Rattle.std.proofs.lemmas.Bool.{cases_eq}
 use mathlib.Core.Option.{some, some-injective, some-ne-none}
-use lib.ListN.{get_elem?}
 use Rattle.atomic_table.specs.Table.{Me, State, keeps, opening, Allows, Enters, Splits, Joins}
 use Rattle.atomic_table.proofs.Lists.{at_set, at_snoc, at_last, at_longer, set_else}
-use Rattle.bits_core.specs.declared.shapes.Shape.{Shape}
-use Rattle.bits_core.specs.declared.events.Side.{Side}
-use Rattle.bits_core.specs.declared.events.Side.TheVariants.{P, C}
-use Rattle.bits_core.specs.declared.events.Bit.{Bit}
-use Rattle.bits_core.specs.declared.events.Act.{Act}
-use Rattle.bits_core.specs.declared.events.Act.TheVariants.{ReadBegin, ReadEnd, WriteBegin, WriteEnd}
-use Rattle.bits_core.specs.declared.events.Access.{Access}
 use Rattle.bits_core.specs.declared.events.Access.TheVariants.{Read, Write}
-use Rattle.bits_core.specs.declared.events.Event.{Event}
-use Rattle.bits_core.specs.Shape.{belongs}
-use Rattle.bits_core.specs.Bits.{other, writer, reader, same_bit}
-use Rattle.bits_core.specs.History.{open_access}
-use Rattle.bits_core.specs.Lawful.{IsLawful}
-use Rattle.bits_core.specs.Steps.{MayFollow}
-use Rattle.bits_core.specs.Made.{subhistory, IsPrefix}
-use Rattle.ring_seats.specs.declared.views.View.{View}
 use Rattle.ring_seats.specs.Words.{value_word, shown, answer_of, word_place, word_count, first_words, Shows}
-use Rattle.ring_seats.specs.Programs.{Follows, IsRing, GoesOn}
 use Rattle.ring_seats.specs.Rule.{event, joint, spent, putter_of, taker_of, joined, may_step, list_of, IsIdle, FirstLoad, SeatKnows, SeatsKnow, HasSeats, KeptBy, KeepsFlickerRule, IsWordFound, Learned}
 use Rattle.ring_seats.proofs.Grown.{kept_load, and_event, Added}
 use Rattle.ring_seats.proofs.Places.{one_or_apart, place_below, shows_first}
@@ -53,11 +36,7 @@ pub ring_empty : (shape : Shape) → IsRing shape []
 ring_empty shape = record {
   puts = record { puts = []; closes = false };
   takes = record { takes = []; end = Rattle.ring_core.specs.Takes.Open };
-  run = record {
-    lawful = empty_is_lawful shape;
-    puts_follow = record { are = tt; events = ([], refl) };
-    takes_follow = record { are = tt; events = ([], refl) };
-  };
+  run = grind (arith, empty_is_lawful);
 }
 
 pub list_of-mine : (x : Side) (e : Event) (got : ℕ) (v : View) → list_of x (and_event x e got v) ≡ list_of x v ++ e ∷ []
@@ -160,12 +139,7 @@ module _ (shape : Shape) where
         record {
           view = refl;
           carried = refl;
-          stands = record {
-            history = h ++ e ∷ [];
-            ring = ring;
-            list_is = own-mine x h e (same_side-same x) ∙ (ap (λ (l : List Event). l ++ e ∷ []) (sym fits.list) ∙ sym (list_of-mine x e (got n) me.0));
-            begins = subst (λ (l : List Event). IsPrefix l (h ++ e ∷ [])) (sym fits.known_is) begins;
-          };
+          stands = grind (arith, own-mine, same_side-same, list_of-mine);
         },
       )
 
@@ -412,13 +386,7 @@ module _ (shape : Shape) where
         record {
           view = refl;
           carried = refl;
-          holds = record {
-            ring = k.ring;
-            put = sym putter.list;
-            taken = sym taker.list;
-            known = subst (λ (l : List Event). IsPrefix l h) (sym putter.known_is) k.begins;
-            known_by_taker = subst (λ (l : List Event). IsPrefix l h) (sym taker.known_by_taker_is) k.begins;
-          };
+          holds = grind arith;
         },
       )
 

@@ -5,11 +5,8 @@ use Rattle.std.proofs.lemmas.List.{get_or-replicate, length-replicate}
 use Rattle.std.proofs.lemmas.Grind.{get_or-set_at}
 use Rattle.std.proofs.lemmas.Bool.{and_parts, ltb-true}
 use native.Mathlib.Decide.{dec_lt}
-use Rattle.bits_core.specs.declared.events.Bit.{Bit}
+use Rattle.ring_seats.proofs.Common.{Bit, Shape, belongs, modulus_of, width_of, same_bit}
 use Rattle.bits_core.specs.declared.events.Bit.TheVariants.{S, R, X, Cell}
-use Rattle.bits_core.specs.declared.shapes.Shape.{Shape}
-use Rattle.bits_core.specs.Shape.{belongs, modulus_of, width_of}
-use Rattle.bits_core.specs.Bits.{same_bit}
 use Rattle.ring_seats.specs.Words.{word_place, word_count, cell_words, first_words, Shows}
 
 -- a place in a row of cells belongs to one cell

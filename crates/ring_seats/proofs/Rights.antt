@@ -2,19 +2,11 @@
 use Rattle.std.proofs.Common.{◌≡◌, ℕ, zero, suc, ◌<◌, ◌≤◌, Bool, true, false, cond, List, [], ◌∷◌, ◌++◌, refl, arith}
 use Rattle.std.specs.Prelude.{nat_lt}
 use Rattle.std.proofs.lemmas.Bool.{and_from, lt-ltb}
-use Rattle.bits_core.specs.declared.events.Side.{Side}
-use Rattle.bits_core.specs.declared.events.Side.TheVariants.{P, C}
-use Rattle.bits_core.specs.declared.events.Bit.{Bit}
-use Rattle.bits_core.specs.declared.events.Bit.TheVariants.{Cell}
+use Rattle.ring_seats.proofs.Common.{Side, P, C, Bit, Cell, Shape, belongs, capacity_of, modulus_of, width_of, IsOpenRight, RowWrite, row_bit, writes_in, digit, digit_writes, digit_reads}
+use Rattle.ring_seats.proofs.Common.{word_write, zero_reads, scan_phrase, row_read_by}
 use Rattle.bits_core.specs.declared.events.Access.TheVariants as access
-use Rattle.bits_core.specs.declared.shapes.Shape.{Shape}
-use Rattle.bits_core.specs.Shape.{belongs, capacity_of, modulus_of, width_of}
-use Rattle.bits_core.specs.Open.{IsOpenRight}
 use Rattle.bits_core.specs.Made.{Made, Read, access_of}
-use Rattle.register_core.specs.Row.{RowWrite, row_bit, writes_in}
 use Rattle.register_core.specs.Unary.{setting, clearing, unary_phrase}
-use Rattle.register_core.specs.Word.{digit, digit_writes, digit_reads, word_write}
-use Rattle.register_core.specs.ScanState.{zero_reads, scan_phrase, row_read_by}
 use Rattle.ring_core.proofs.Machines.NextParts.{row_bit_right, scan_bit_right}
 
 -- all accesses of a list are such

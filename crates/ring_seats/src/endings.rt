@@ -35,6 +35,7 @@ impl<A: Allocator> LastWords<A> {
     }
 
     /// The word at a place, which is below their number. Their arrangement depends on the kind of ring ([`WordKind`]).
+    #[tactic(auto, using(crate::proofs::LastStates::found_at))]
     pub fn word(&self, place: usize) -> u64
         requires { place < length self.now }
         ensures { result ≡ slice_index self.now place }

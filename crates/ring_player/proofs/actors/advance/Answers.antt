@@ -1,17 +1,8 @@
 use Rattle.std.proofs.Common.{rules, ◌≡◌, true, refl, sym, ap, subst, ◌∙◌}
 use Rattle.bits_core.specs.declared.events.Act.TheVariants.{WriteEnd}
-use Rattle.bits_core.specs.declared.events.Event.{Event}
-use Rattle.bits_core.specs.declared.events.Side.{Side}
-use Rattle.bits_core.specs.Bits.{other}
-use Rattle.bits_core.specs.History.{open_access}
-use Rattle.bits_core.specs.Lawful.{IsLawful}
-use Rattle.bits_core.specs.Made.{subhistory}
-use Rattle.bits_core.specs.Memory.{MemoryState}
+use Rattle.ring_player.proofs.Common.{Event, Side, other, open_access, IsLawful, subhistory, MemoryState, IsPlaying, IsProgram, Content}
 use Rattle.bits_core.specs.Open.{bit_of}
 use Rattle.ring_core.specs.Calls.{EndsInZeros, LastBitIsDue}
-use Rattle.ring_player.specs.Actors.{IsPlaying}
-use Rattle.ring_player.specs.Plays.{IsProgram}
-use Rattle.ring_script.specs.Content.{Content}
 use Rattle.ring_player.proofs.Steps.{after_end, ends_there, answers_one, end_move, playing_on, reading, writing}
 use Rattle.ring_player.proofs.Turns.{turn_begin, turn_quiet, turn_read}
 use Rattle.ring_player.proofs.actors.advance.Goals as goal

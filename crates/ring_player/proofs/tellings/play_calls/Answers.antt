@@ -1,18 +1,8 @@
 use Rattle.std.proofs.Common.{◌≡◌, ℕ, ◌+◌, List, length, ◌++◌, [], take, sym, ap, subst, ◌∙◌, arith}
-use Rattle.std.specs.Prelude.{replicate, slice_index_or}
-use Rattle.std.proofs.lemmas.List.{take_all}
-use Rattle.bits_core.specs.declared.events.Event.{Event}
-use Rattle.bits_core.specs.declared.events.Side.{Side}
-use Rattle.bits_core.specs.declared.events.Side.TheVariants.{P}
-use Rattle.ring_script.specs.declared.schedules.LetterRun.{LetterRun}
+use Rattle.ring_player.proofs.Common.{replicate, slice_index_or, take_all, Event, Side, P, LetterRun, Content, Plays, event_sides, AreAt, TellsCalls, call_events, CallEvent, TakenItems}
 use Rattle.ring_script.specs.Schedule.{spelled}
-use Rattle.ring_script.specs.Content.{Content}
-use Rattle.ring_player.specs.Plays.{Plays, event_sides}
-use Rattle.ring_player.specs.Tellings.{AreAt, TellsCalls, call_events}
 use Rattle.ring_player.specs.declared.tellings.PutStage.TheVariants as put
 use Rattle.ring_player.specs.declared.tellings.TakeStage.TheVariants as taking
-use Rattle.queue_calls.specs.declared.events.CallEvent.{CallEvent}
-use Rattle.ring_player.specs.declared.tellings.TakenItems.{TakenItems}
 use Rattle.ring_player.proofs.TellingMoves.{at_first, nothing_told}
 use Rattle.ring_player.proofs.TellingRecords.{play_records}
 use Rattle.ring_player.proofs.WorldParts.{spelled-more, spelled-none}
@@ -25,11 +15,8 @@ loop-run-init g c =
       script = c.new-world.ensures.script;
       all = c.runs-run-items.ensures ∙ ap (λ (s : Content). s.letters) c.as_ref-script.ensures;
       at = subst (AreAt put.Between taking.Between w.script) (sym c.new-world.ensures.empty) (at_first w.script);
-      told = subst (λ (t : List (CallEvent ℕ TakenItems)). TellsCalls w.script w.history (call_events w.script t)) (sym c.new-told.ensures.items)
-          (subst (λ h. TellsCalls w.script h []) (sym c.new-world.ensures.empty) (nothing_told w.script));
-      plays = subst (λ (l : List Side). Plays c.args.script.now l w.history) (sym spelled-none)
-          (subst (λ (s : Content). Plays s [] w.history) c.new-world.ensures.script
-          (subst (λ (h : List Event). Plays w.script (event_sides h) w.history) c.new-world.ensures.empty c.history.ensures.plays.plays));
+      told = grind (arith, nothing_told, c.new-told.ensures.items, c.new-world.ensures.empty);
+      plays = grind (arith, spelled-none, c.new-world.ensures.script, c.new-world.ensures.empty, c.history.ensures.plays.plays);
     }
 
 pub repeat_told-requires-clause-items : goal.repeat_told-requires-clause-items
@@ -57,8 +44,7 @@ loop-run-preserved g c =
       all = l.all;
       at = c.in_ok-repeat_told.ensures.at;
       told = c.in_ok-repeat_told.ensures.told;
-      plays = subst (λ (t : List Side). Plays c.args.script.now t c.repeat_told.new.world.history) (sym after)
-          (subst (λ (s : Content). Plays s (before ++ replicate one.count one.side) c.repeat_told.new.world.history) l.script on);
+      plays = grind arith;
     }
 
 pub returns : goal.returns

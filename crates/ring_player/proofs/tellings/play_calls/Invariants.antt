@@ -1,7 +1,6 @@
 use Rattle.std.proofs.Common.{◌≡◌, take}
 use Rattle.ring_script.specs.Schedule.{spelled}
-use Rattle.ring_player.specs.Plays.{Plays}
-use Rattle.ring_player.specs.Tellings.{AreAt, TellsCalls, call_events}
+use Rattle.ring_player.proofs.Common.{Plays, AreAt, TellsCalls, call_events}
 use Rattle.ring_player.proofs.tellings.play_calls.Given as goal
 
 abbrev pub invariant-loop-run : goal.invariant-loop-run

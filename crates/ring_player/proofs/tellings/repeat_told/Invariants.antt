@@ -1,8 +1,5 @@
 use Rattle.std.proofs.Common.{◌≡◌, List, ◌++◌}
-use Rattle.std.specs.Prelude.{replicate}
-use Rattle.bits_core.specs.declared.events.Side.{Side}
-use Rattle.ring_player.specs.Plays.{Plays}
-use Rattle.ring_player.specs.Tellings.{AreAt, TellsCalls, call_events}
+use Rattle.ring_player.proofs.Common.{replicate, Side, Plays, AreAt, TellsCalls, call_events}
 use Rattle.ring_player.proofs.tellings.repeat_told.Given as goal
 
 abbrev pub invariant-loop-made : goal.invariant-loop-made

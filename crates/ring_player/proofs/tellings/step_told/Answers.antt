@@ -1,7 +1,5 @@
 use Rattle.std.proofs.Common.{subst}
-use Rattle.bits_core.specs.Made.{IsPrefix}
-use Rattle.bits_core.specs.declared.events.Side.TheVariants.{P, C}
-use Rattle.ring_player.specs.Actors.{IsMove}
+use Rattle.ring_player.proofs.Common.{IsPrefix, P, C, IsMove}
 use Rattle.ring_player.specs.Tellings.{TakeTally}
 use Rattle.ring_player.specs.declared.tellings.TakeCount.{TakeCount}
 use Rattle.ring_player.proofs.TellingMoves.{not_stepped, put_stepped, take_stepped, Stepped}

@@ -1,15 +1,7 @@
 use Rattle.std.proofs.Common.{◌≡◌, true, List, subst, sym, take}
-use Rattle.std.specs.Prelude.{◌↔◌}
+use Rattle.ring_player.proofs.Common.{◌↔◌, FollowsPuts, FollowsTakes, content_of, Content, Event, Side, Shape, IsPlayOf}
 use Rattle.ring_core.specs.Items.{items_put_in, items_taken_in, ToldIn}
 use Rattle.ring_core.specs.Over.{empties, fulls, puts_over_in, takes_over_in}
-use Rattle.ring_core.specs.Puts.{FollowsPuts}
-use Rattle.ring_core.specs.Takes.{FollowsTakes}
-use Rattle.ring_script.specs.Borrowed.{content_of}
-use Rattle.ring_script.specs.Content.{Content}
-use Rattle.bits_core.specs.declared.events.Event.{Event}
-use Rattle.bits_core.specs.declared.events.Side.{Side}
-use Rattle.bits_core.specs.declared.shapes.Shape.{Shape}
-use Rattle.ring_player.specs.Headline.{IsPlayOf}
 use Rattle.ring_player.specs.Plays.{HasFlickers}
 use Rattle.ring_player.proofs.Flickers.{has_flickers}
 use Rattle.ring_player.proofs.WorldParts.{is_play}

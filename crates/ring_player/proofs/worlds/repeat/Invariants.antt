@@ -1,7 +1,5 @@
 use Rattle.std.proofs.Common.{◌≡◌, ◌≤◌, ◌+◌, List, ◌++◌, length}
-use Rattle.std.specs.Prelude.{replicate}
-use Rattle.bits_core.specs.declared.events.Side.{Side}
-use Rattle.ring_player.specs.Plays.{Plays}
+use Rattle.ring_player.proofs.Common.{replicate, Side, Plays}
 use Rattle.ring_player.proofs.worlds.repeat.Given as goal
 
 abbrev pub invariant-loop-made : goal.invariant-loop-made

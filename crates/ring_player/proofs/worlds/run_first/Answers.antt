@@ -1,12 +1,6 @@
 use Rattle.std.proofs.Common.{ℕ, List, length, ◌++◌, [], take, refl, sym, ap, subst, ◌∙◌, arith}
-use Rattle.std.specs.Prelude.{replicate, slice_index_or}
-use Rattle.bits_core.specs.declared.events.Event.{Event}
-use Rattle.bits_core.specs.declared.events.Side.{Side}
-use Rattle.ring_script.specs.declared.schedules.LetterRun.{LetterRun}
-use Rattle.ring_script.specs.Borrowed.{content_of}
+use Rattle.ring_player.proofs.Common.{replicate, slice_index_or, Event, Side, LetterRun, content_of, Content, Plays, event_sides}
 use Rattle.ring_script.specs.Schedule.{spelled}
-use Rattle.ring_script.specs.Content.{Content}
-use Rattle.ring_player.specs.Plays.{Plays, event_sides}
 use Rattle.ring_player.proofs.WorldParts.{all_runs, no_run, one_run_more, spelled-none, take-none, on_err, within_all}
 use Rattle.ring_player.proofs.worlds.run_first.Goals as goal
 
@@ -14,8 +8,7 @@ pub loop-run-init : goal.loop-run-init
 loop-run-init g c =
     let w = c.args.world.now in
     let k : ℕ = c.args.letters in
-    let nothing : Plays w.script (take k (spelled [])) [] =
-    subst (λ (l : List Side). Plays w.script l []) (sym (take-none k)) (subst (λ (h : List Event). Plays w.script (event_sides h) h) c.requires.new c.history.ensures.plays.plays) in
+    let nothing : Plays w.script (take k (spelled [])) [] = grind (arith, take-none, c.requires.new, c.history.ensures.plays.plays) in
     record {
       script = c.requires.of_script;
       all = c.runs-run-items.ensures;

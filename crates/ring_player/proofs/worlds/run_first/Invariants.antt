@@ -1,7 +1,6 @@
 use Rattle.std.proofs.Common.{◌≡◌, ◌≤◌, ◌+◌, ◌-◌, length, take}
-use Rattle.ring_script.specs.Borrowed.{content_of}
+use Rattle.ring_player.proofs.Common.{content_of, Plays}
 use Rattle.ring_script.specs.Schedule.{spelled}
-use Rattle.ring_player.specs.Plays.{Plays}
 use Rattle.ring_player.proofs.worlds.run_first.Given as goal
 
 abbrev pub invariant-loop-run : goal.invariant-loop-run

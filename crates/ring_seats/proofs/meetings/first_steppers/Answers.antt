@@ -1,8 +1,6 @@
 use Rattle.std.proofs.Common.{◌≡◌, [], refl, ap, subst, sym, ◌∙◌}
-use Rattle.bits_core.specs.declared.events.Side.TheVariants.{P, C}
+use Rattle.ring_seats.proofs.Common.{P, C, Shape, View}
 use Rattle.ring_seats.specs.Steppers.{StandsAs}
-use Rattle.bits_core.specs.declared.shapes.Shape.{Shape}
-use Rattle.ring_seats.specs.declared.views.View.{View}
 use Rattle.ring_seats.specs.Rule.{Stands, joint, list_of, putter_of, taker_of}
 use Rattle.ring_seats.proofs.Moves.{ring_empty}
 use Rattle.ring_seats.proofs.meetings.first_steppers.Goals as goal

@@ -1,9 +1,8 @@
 use Rattle.std.proofs.Common.{◌≤◌, length, None, sym, ap, ap₂, subst, ◌∙◌, arith, take, drop}
-use Rattle.bits_core.specs.Shape.{batch_of, width_of}
+use Rattle.ring_player.proofs.Common.{batch_of, width_of, content_of}
 use Rattle.ring_script.specs.Script.{Fit}
 use Rattle.ring_player.proofs.Nexts.{put_next, NextPut as NextOf}
 use Rattle.ring_player.proofs.Puttings.{began_close, is_done, not_closed, offered_is_batch, none_of, all_fit}
-use Rattle.ring_script.specs.Borrowed.{content_of}
 use Rattle.ring_player.proofs.putting.PutActor.begin_call.Goals as goal
 use Rattle.ring_player.proofs.putting.PutActor.begin_call.Goals.{else-closes-via-then-closes+else-not-is_closed, else-closes-via-else-closes}
 

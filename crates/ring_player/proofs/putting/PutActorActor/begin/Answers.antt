@@ -1,9 +1,8 @@
 use Rattle.std.proofs.Common.{◌∙◌, ap}
-use Rattle.bits_core.specs.Shape.{width_of}
+use Rattle.ring_player.proofs.Common.{width_of, content_of}
 use Rattle.ring_player.proofs.Nexts.{put_next}
 use Rattle.ring_player.proofs.Puttings.{begins_access}
 use Rattle.ring_player.proofs.Writings.{begins_writing}
-use Rattle.ring_script.specs.Borrowed.{content_of}
 use Rattle.ring_player.proofs.putting.PutActorActor.begin.Goals as goal
 
 pub returns-clause-stands : goal.returns-clause-stands

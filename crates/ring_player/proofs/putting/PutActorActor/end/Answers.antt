@@ -1,12 +1,10 @@
 use Rattle.std.proofs.Common.{◌≡◌, ◌∷◌, [], ◌++◌, List, Some, None, ◌+◌, length, length-append, sym, subst, ap, ◌∙◌, arith}
-use Rattle.bits_core.specs.declared.events.Access.{Access}
-use Rattle.bits_core.specs.Made.{Made, answered}
+use Rattle.ring_player.proofs.Common.{Access, Made, answered, content_of}
 use Rattle.ring_core.specs.ProducerState.{batch_reply, due_put}
 use Rattle.ring_player.proofs.Nexts.{put_next}
 use Rattle.ring_player.specs.Actors.{PutActorStands, full_in_reply, stored_in_reply}
 use Rattle.ring_player.proofs.Writings.{digit_few, digits_few, ends_writing, full_few}
 use Rattle.ring_player.proofs.Puttings.{after_reply, ended, ended_within}
-use Rattle.ring_script.specs.Borrowed.{content_of}
 use Rattle.ring_player.proofs.putting.PutActorActor.end.Goals as goal
 use Rattle.ring_player.proofs.putting.PutActorActor.end.Goals.{After-batch_reply-reply}
 

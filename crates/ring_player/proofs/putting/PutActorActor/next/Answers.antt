@@ -1,12 +1,8 @@
 use Rattle.std.proofs.Common.{ap, subst, ◌∙◌}
-use Rattle.bits_core.specs.declared.events.Side.TheVariants.{P}
-use Rattle.bits_core.specs.Made.{events_of}
+use Rattle.ring_player.proofs.Common.{P, events_of, IsDoneAfter, Content, content_of}
 use Rattle.ring_player.proofs.Moves.{right}
 use Rattle.ring_player.proofs.Nexts.{put_next}
-use Rattle.ring_player.specs.Plays.{IsDoneAfter}
-use Rattle.ring_script.specs.Content.{Content}
 use Rattle.ring_player.proofs.Puttings.{resting, unfinished}
-use Rattle.ring_script.specs.Borrowed.{content_of}
 use Rattle.ring_player.proofs.putting.PutActorActor.next.Goals as goal
 
 pub returns-clause-unfinished : goal.returns-clause-unfinished

@@ -24,9 +24,5 @@ pub returns-else-not-self-clause-done : goal.returns-else-not-self-clause-done
 returns-else-not-self-clause-done g c none list s =
     let x = c.args.self.now in
     let next : NextOf x.consumer None = subst (λ d. NextOf x.consumer d) (none_of c.next.result (sym c.is_some.ensures ∙ c.if-is_some.false)) (take_next _ _ c.next.ensures.rest c.next.ensures.goes_on) in
-    let over : (x.told ≡ true) ⊎ ((content_of x.script).takes ≤ length (g.T.Store.items x.taken)) = elim c.else-not-self.branch [
-      | else-not-self-via-then-not-self+else-wanted-gt0 w ↦
-          inr (none_wanted (content_of x.script) (length (g.T.Store.items x.taken)) (omega (arith, w.if-wanted-gt0.false, c.wanted-wanted.ensures.value)))
-      | else-not-self-via-else-not-self w ↦ inl w.if-not-self.false
-    ] in
+    let over : (x.told ≡ true) ⊎ ((content_of x.script).takes ≤ length (g.T.Store.items x.taken)) = grind (arith, none_wanted, c.wanted-wanted.ensures.value) in
     is_done (content_of x.script) x.consumer (g.T.Store.items x.taken) x.told x.empty list s next over

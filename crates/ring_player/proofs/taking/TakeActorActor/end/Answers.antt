@@ -1,15 +1,9 @@
 use Rattle.std.proofs.Common.{◌+◌, arith, ◌≡◌, ◌∷◌, List, [], ◌++◌, None, Some, length, sym, subst, ap, ◌∙◌, append-nil, ℕ, Bool, Option, true}
-use Rattle.bits_core.specs.declared.events.Access.{Access}
-use Rattle.bits_core.specs.Made.{Made, answered}
-use Rattle.ring_core.specs.ConsumerState.{ConsumerState, due_take}
-use Rattle.ring_script.specs.Content.{Content}
-use Rattle.ring_core.specs.declared.replies.TakeBatchReply.{TakeBatchReply}
+use Rattle.ring_player.proofs.Common.{Access, Made, answered, ConsumerState, due_take, Content, TakeBatchReply, TakeActorStands, content_of}
 use Rattle.ring_core.specs.declared.replies.TakeBatchReply.TheVariants as batch
-use Rattle.ring_player.specs.Actors.{TakeActorStands}
 use Rattle.ring_player.proofs.Nexts.{take_next}
 use Rattle.ring_player.proofs.TakeEnds.{Ended, ended}
 use Rattle.ring_player.proofs.TakesSoFar.{empty_few}
-use Rattle.ring_script.specs.Borrowed.{content_of}
 use Rattle.ring_player.proofs.taking.TakeActorActor.end.Goals as goal
 use Rattle.ring_player.proofs.taking.TakeActorActor.end.Goals.{After-batch_reply}
 

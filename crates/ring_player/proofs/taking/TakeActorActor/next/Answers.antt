@@ -1,12 +1,8 @@
 use Rattle.std.proofs.Common.{ap, subst, ◌∙◌}
-use Rattle.bits_core.specs.declared.events.Side.TheVariants.{C}
-use Rattle.bits_core.specs.Made.{events_of}
+use Rattle.ring_player.proofs.Common.{C, events_of, IsDoneAfter, Content, content_of}
 use Rattle.ring_player.proofs.Moves.{right}
 use Rattle.ring_player.proofs.Nexts.{take_next}
-use Rattle.ring_player.specs.Plays.{IsDoneAfter}
-use Rattle.ring_script.specs.Content.{Content}
 use Rattle.ring_player.proofs.Takings.{resting, unfinished}
-use Rattle.ring_script.specs.Borrowed.{content_of}
 use Rattle.ring_player.proofs.taking.TakeActorActor.next.Goals as goal
 
 pub returns-clause-unfinished : goal.returns-clause-unfinished

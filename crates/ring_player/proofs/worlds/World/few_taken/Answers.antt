@@ -1,11 +1,7 @@
 use Rattle.std.proofs.Common.{◌≤◌, length, ap, subst, arith}
-use Rattle.bits_core.specs.declared.events.Side.TheVariants.{C}
-use Rattle.bits_core.specs.History.{open_access}
-use Rattle.ring_player.specs.Worlds.{Played}
+use Rattle.ring_player.proofs.Common.{C, open_access, Played, content_of, Content}
 use Rattle.ring_player.proofs.TakesSoFar.{taken_few}
 use Rattle.ring_player.proofs.WorldParts.{first_few, taken_first}
-use Rattle.ring_script.specs.Borrowed.{content_of}
-use Rattle.ring_script.specs.Content.{Content}
 use Rattle.ring_player.proofs.worlds.World.few_taken.Goals as goal
 
 pub returns-clause-items : goal.returns-clause-items
@@ -20,5 +16,4 @@ pub returns-clause-takes : goal.returns-clause-takes
 returns-clause-takes g c =
     let w = c.self.inside in
     let i = c.self.invariant in
-    let few = taken_few (content_of w.consumer.script) w.consumer.consumer (g.T.Store.items w.consumer.taken) w.consumer.told w.consumer.empty i.takes.list (open_access C w.memory.events) i.takes.there in
-    subst (λ (x : Played). x.taken ≤ x.script.takes) c.self.view_is (omega (arith, few, ap (λ (x : Content). x.takes) i.take_script_is))
+    subst (λ (x : Played). x.taken ≤ x.script.takes) c.self.view_is (omega (arith, taken_few, ap (λ (x : Content). x.takes) i.take_script_is))

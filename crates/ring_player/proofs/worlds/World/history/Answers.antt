@@ -1,12 +1,7 @@
 use Rattle.std.proofs.Common.{List, subst, sym}
-use Rattle.bits_core.specs.declared.events.Event.{Event}
-use Rattle.bits_core.specs.declared.events.Side.TheVariants.{P, C}
+use Rattle.ring_player.proofs.Common.{Event, P, C, IsPlayOf, IsProgram, Plays, event_sides, Played, content_of}
 use Rattle.ring_core.specs.Linear.{EachReadingIsLinearizable}
-use Rattle.ring_player.specs.Headline.{IsPlayOf}
-use Rattle.ring_player.specs.Plays.{IsProgram, Plays, event_sides}
-use Rattle.ring_player.specs.Worlds.{Played}
 use Rattle.ring_player.proofs.WorldParts.{is_play, plays_of}
-use Rattle.ring_script.specs.Borrowed.{content_of}
 use Rattle.ring_core.proofs.LawLemmas.{ring_is_linearizable}
 use Rattle.ring_player.proofs.LawLemmas.{every_play_fills, every_play_holds}
 use Rattle.ring_player.proofs.worlds.World.history.Goals as goal

@@ -1,12 +1,5 @@
 use Rattle.std.proofs.Common.{ℕ, ◌^◌, ◌<◌, List, ◌++◌, sym, subst}
-use Rattle.bits_core.specs.declared.events.Side.TheVariants.{C}
-use Rattle.bits_core.specs.Shape.{capacity_of, width_of}
-use Rattle.bits_core.specs.Made.{events_of}
-use Rattle.register_core.specs.Word.{word_read}
-use Rattle.ring_seats.specs.Ring.{RingEnd}
-use Rattle.bits_core.specs.declared.events.Event.{Event}
-use Rattle.bits_core.specs.declared.shapes.Shape.{Shape}
-use Rattle.ring_seats.specs.Programs.{Follows}
+use Rattle.ring_seats.proofs.Common.{C, capacity_of, width_of, events_of, word_read, RingEnd, Event, Shape, Follows}
 use Rattle.ring_seats.proofs.Accesses.{of_side}
 use Rattle.ring_seats.proofs.CounterMoves.{loads_cell}
 use Rattle.ring_seats.proofs.counter_steppers.Stepper+Counting.read_cell.Goals as goal

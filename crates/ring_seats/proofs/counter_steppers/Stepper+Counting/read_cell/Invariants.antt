@@ -1,7 +1,5 @@
 use Rattle.std.specs.Prelude.{◌^◌}
-use Rattle.bits_core.specs.declared.events.Side.TheVariants.{C}
-use Rattle.bits_core.specs.Shape.{width_of}
-use Rattle.register_core.specs.Word.{word_read}
+use Rattle.ring_seats.proofs.Common.{C, width_of, word_read}
 use Rattle.ring_seats.proofs.Grown.{AddedAll, IsBelow}
 use Rattle.ring_seats.proofs.counter_steppers.Stepper+Counting.read_cell.Given as goal
 

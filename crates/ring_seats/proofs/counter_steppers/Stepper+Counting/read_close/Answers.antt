@@ -1,10 +1,6 @@
 use Rattle.std.proofs.Common.{Bool, List, [], ◌∷◌, ◌++◌}
-use Rattle.bits_core.specs.declared.events.Side.TheVariants.{C}
-use Rattle.bits_core.specs.declared.events.Bit.TheVariants.{X}
+use Rattle.ring_seats.proofs.Common.{C, X, Event, Shape, Follows}
 use Rattle.bits_core.specs.Made.{events_of, Read}
-use Rattle.bits_core.specs.declared.events.Event.{Event}
-use Rattle.bits_core.specs.declared.shapes.Shape.{Shape}
-use Rattle.ring_seats.specs.Programs.{Follows}
 use Rattle.ring_seats.proofs.Accesses.{of_side}
 use Rattle.ring_seats.proofs.CounterMoves.{loads_close}
 use Rattle.ring_seats.proofs.counter_steppers.Stepper+Counting.read_close.Goals as goal

@@ -1,6 +1,5 @@
 use Rattle.std.specs.Prelude.{◌==◌, [], ◌∷◌}
-use Rattle.bits_core.specs.declared.events.Side.TheVariants.{C}
-use Rattle.bits_core.specs.declared.events.Bit.TheVariants.{X}
+use Rattle.ring_seats.proofs.Common.{C, X}
 use Rattle.bits_core.specs.Made.{Read}
 use Rattle.ring_seats.proofs.Grown.{AddedAll, TellsNothing}
 use Rattle.ring_seats.proofs.counter_steppers.Stepper+Counting.read_close.Given as goal

@@ -1,10 +1,7 @@
 use Rattle.std.proofs.Common.{◌≡◌, refl, ℕ, suc, ◌+◌, ◌%◌, ◌^◌, ◌<◌, List, length, take, arith, sym, subst, ap, ◌∙◌, length-set}
 use Rattle.std.proofs.lemmas.List.{take_more_set}
-use Rattle.bits_core.specs.declared.shapes.Shape.{Shape}
-use Rattle.bits_core.specs.Shape.{AllFit, capacity_of, width_of}
-use Rattle.ring_core.specs.Takes.{words_read}
+use Rattle.ring_seats.proofs.Common.{Shape, AllFit, capacity_of, width_of, words_read, GrowsBy}
 use Rattle.ring_core.proofs.LawLemmas.{words_by_one_more_fit}
-use Rattle.ring_seats.specs.Counters.{GrowsBy}
 use Rattle.ring_seats.proofs.CounterPuts.{length-first}
 use Rattle.ring_seats.proofs.CounterSteps.{same_shape, next_place, next_load, loaded_one}
 use Rattle.ring_seats.proofs.counter_steppers.Stepper+Counting.read_items.Goals as goal

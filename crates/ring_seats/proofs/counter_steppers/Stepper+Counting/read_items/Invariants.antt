@@ -1,7 +1,5 @@
 use Rattle.std.proofs.Common.{◌≡◌, ◌+◌, ◌-◌, ◌%◌, ◌≤◌, length, take}
-use Rattle.bits_core.specs.Shape.{AllFit, capacity_of}
-use Rattle.ring_core.specs.Takes.{words_read}
-use Rattle.ring_seats.specs.Counters.{GrowsBy}
+use Rattle.ring_seats.proofs.Common.{AllFit, capacity_of, words_read, GrowsBy}
 use Rattle.ring_seats.proofs.counter_steppers.Stepper+Counting.read_items.Given as goal
 
 abbrev pub invariant-loads : goal.invariant-loads

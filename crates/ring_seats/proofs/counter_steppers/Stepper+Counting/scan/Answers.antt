@@ -1,11 +1,5 @@
 use Rattle.std.proofs.Common.{ℕ, ◌<◌, ◌++◌, sym, subst}
-use Rattle.atomic_table.specs.Table.{Allows}
-use Rattle.bits_core.specs.Shape.{modulus_of}
-use Rattle.bits_core.specs.Made.{events_of}
-use Rattle.register_core.specs.ScanState.{scan_phrase, row_read_by}
-use Rattle.ring_seats.specs.Programs.{Follows}
-use Rattle.ring_seats.specs.Ring.{RingEnd}
-use Rattle.ring_seats.specs.Counters.{KeptWords}
+use Rattle.ring_seats.proofs.Common.{Allows, modulus_of, events_of, scan_phrase, row_read_by, Follows, RingEnd, KeptWords}
 use Rattle.ring_seats.proofs.Grown.{AddedAll, IsBelow}
 use Rattle.ring_seats.proofs.CounterMoves.{loads_count}
 use Rattle.ring_seats.proofs.counter_steppers.Stepper+Counting.scan.Goals as goal

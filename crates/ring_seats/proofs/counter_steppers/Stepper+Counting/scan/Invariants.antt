@@ -1,5 +1,4 @@
-use Rattle.bits_core.specs.Shape.{modulus_of}
-use Rattle.register_core.specs.ScanState.{scan_phrase, row_read_by}
+use Rattle.ring_seats.proofs.Common.{modulus_of, scan_phrase, row_read_by}
 use Rattle.ring_seats.proofs.Grown.{AddedAll, IsBelow}
 use Rattle.ring_seats.proofs.counter_steppers.Stepper+Counting.scan.Given as goal
 

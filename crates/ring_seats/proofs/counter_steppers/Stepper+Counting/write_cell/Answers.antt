@@ -1,12 +1,5 @@
 use Rattle.std.proofs.Common.{◌^◌, ◌<◌, List, ◌++◌, sym, subst}
-use Rattle.bits_core.specs.declared.events.Side.TheVariants.{P}
-use Rattle.bits_core.specs.Shape.{capacity_of, width_of}
-use Rattle.bits_core.specs.Made.{events_of}
-use Rattle.register_core.specs.Word.{word_write}
-use Rattle.ring_seats.specs.Ring.{RingEnd}
-use Rattle.bits_core.specs.declared.events.Event.{Event}
-use Rattle.bits_core.specs.declared.shapes.Shape.{Shape}
-use Rattle.ring_seats.specs.Programs.{Follows}
+use Rattle.ring_seats.proofs.Common.{P, capacity_of, width_of, events_of, word_write, RingEnd, Event, Shape, Follows}
 use Rattle.ring_seats.proofs.Accesses.{of_side}
 use Rattle.ring_seats.proofs.CounterMoves.{stores_cell}
 use Rattle.ring_seats.proofs.counter_steppers.Stepper+Counting.write_cell.Goals as goal

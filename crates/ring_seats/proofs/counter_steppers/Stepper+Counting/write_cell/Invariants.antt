@@ -1,6 +1,4 @@
-use Rattle.bits_core.specs.declared.events.Side.TheVariants.{P}
-use Rattle.bits_core.specs.Shape.{width_of}
-use Rattle.register_core.specs.Word.{word_write}
+use Rattle.ring_seats.proofs.Common.{P, width_of, word_write}
 use Rattle.ring_seats.proofs.Grown.{AddedAll, TellsNothing}
 use Rattle.ring_seats.proofs.counter_steppers.Stepper+Counting.write_cell.Given as goal
 

@@ -1,10 +1,6 @@
 use Rattle.std.proofs.Common.{true, List, [], ◌∷◌, ◌++◌}
-use Rattle.bits_core.specs.declared.events.Side.TheVariants.{P}
-use Rattle.bits_core.specs.declared.events.Bit.TheVariants.{X}
+use Rattle.ring_seats.proofs.Common.{P, X, Event, Shape, Follows}
 use Rattle.bits_core.specs.Made.{events_of, Write}
-use Rattle.bits_core.specs.declared.events.Event.{Event}
-use Rattle.bits_core.specs.declared.shapes.Shape.{Shape}
-use Rattle.ring_seats.specs.Programs.{Follows}
 use Rattle.ring_seats.proofs.Accesses.{of_side}
 use Rattle.ring_seats.proofs.CounterMoves.{stores_close}
 use Rattle.ring_seats.proofs.counter_steppers.Stepper+Counting.write_close.Goals as goal

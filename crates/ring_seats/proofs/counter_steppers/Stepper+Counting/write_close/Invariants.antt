@@ -1,6 +1,5 @@
 use Rattle.std.specs.Prelude.{true, [], ◌∷◌}
-use Rattle.bits_core.specs.declared.events.Side.TheVariants.{P}
-use Rattle.bits_core.specs.declared.events.Bit.TheVariants.{X}
+use Rattle.ring_seats.proofs.Common.{P, X}
 use Rattle.bits_core.specs.Made.{Write}
 use Rattle.ring_seats.proofs.Grown.{AddedAll, TellsNothing}
 use Rattle.ring_seats.proofs.counter_steppers.Stepper+Counting.write_close.Given as goal

@@ -1,11 +1,5 @@
 use Rattle.std.proofs.Common.{arith, ℕ, ◌<◌, ◌++◌, sym, subst}
-use Rattle.atomic_table.specs.Table.{Allows}
-use Rattle.bits_core.specs.Shape.{modulus_of}
-use Rattle.bits_core.specs.Made.{events_of}
-use Rattle.ring_seats.specs.Programs.{Follows}
-use Rattle.ring_seats.specs.Ring.{RingEnd}
-use Rattle.ring_seats.specs.Rule.{list_of}
-use Rattle.ring_seats.specs.Counters.{KeptWords, unary_over}
+use Rattle.ring_seats.proofs.Common.{Allows, modulus_of, events_of, Follows, RingEnd, list_of, KeptWords, unary_over}
 use Rattle.ring_seats.proofs.Grown.{AddedAll, TellsNothing}
 use Rattle.ring_seats.proofs.CounterMoves.{stores_count}
 use Rattle.ring_seats.proofs.counter_steppers.Stepper+Counting.write_count.Goals as goal

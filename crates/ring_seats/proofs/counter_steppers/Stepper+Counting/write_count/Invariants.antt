@@ -1,5 +1,4 @@
-use Rattle.ring_seats.specs.Rule.{list_of}
-use Rattle.ring_seats.specs.Counters.{unary_over}
+use Rattle.ring_seats.proofs.Common.{list_of, unary_over}
 use Rattle.ring_seats.proofs.Grown.{AddedAll, TellsNothing}
 use Rattle.ring_seats.proofs.counter_steppers.Stepper+Counting.write_count.Given as goal
 

@@ -1,8 +1,6 @@
 use Rattle.std.proofs.Common.{rules, ◌≡◌, refl, ℕ, suc, ◌+◌, ◌%◌, arith, subst, ap, ◌∙◌, take}
 use Rattle.std.proofs.lemmas.Nat.{mod_below}
-use Rattle.bits_core.specs.Shape.{capacity_of}
-use Rattle.ring_core.specs.Puts.{words_phrase}
-use Rattle.ring_seats.specs.Counters.{GrowsBy}
+use Rattle.ring_seats.proofs.Common.{capacity_of, words_phrase, GrowsBy}
 use Rattle.ring_seats.proofs.CounterPuts.{fit_at}
 use Rattle.ring_seats.proofs.CounterSteps.{same_shape, next_store, stored_one, next_place}
 use Rattle.ring_seats.proofs.counter_steppers.Stepper+Counting.write_items.Goals as goal

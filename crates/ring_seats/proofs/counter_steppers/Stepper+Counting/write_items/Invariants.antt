@@ -1,7 +1,5 @@
 use Rattle.std.proofs.Common.{◌≡◌, ◌+◌, ◌-◌, ◌%◌, ◌≤◌, length, take}
-use Rattle.bits_core.specs.Shape.{capacity_of}
-use Rattle.ring_core.specs.Puts.{words_phrase}
-use Rattle.ring_seats.specs.Counters.{GrowsBy}
+use Rattle.ring_seats.proofs.Common.{capacity_of, words_phrase, GrowsBy}
 use Rattle.ring_seats.proofs.counter_steppers.Stepper+Counting.write_items.Given as goal
 
 abbrev pub invariant-stores : goal.invariant-stores

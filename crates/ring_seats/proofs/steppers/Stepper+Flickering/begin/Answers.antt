@@ -1,15 +1,8 @@
 use Rattle.std.proofs.Common.{arith, ℕ, true, false, Some, [], ◌∷◌, ◌++◌, ap, ◌∙◌, sym, subst, refl}
-use Rattle.atomic_table.specs.Table.{Allows}
-use Rattle.bits_core.specs.declared.events.Access.{Access}
-use Rattle.bits_core.specs.declared.events.Act.TheVariants.{ReadBegin, WriteBegin}
-use Rattle.bits_core.specs.Bits.{other}
-use Rattle.bits_core.specs.Open.{IsOpenRight}
-use Rattle.ring_seats.specs.declared.views.View.{View}
+use Rattle.ring_seats.proofs.Common.{Allows, Access, ReadBegin, WriteBegin, other, IsOpenRight, View, RingEnd, AreAnswered}
 use Rattle.ring_seats.specs.Programs.{Follows, begin_of}
-use Rattle.ring_seats.specs.Ring.{RingEnd}
 use Rattle.ring_seats.specs.Rule.{IsIdle, KeepsFlickerRule, event}
 use Rattle.ring_seats.proofs.Grown.{Added}
-use Rattle.ring_seats.specs.Steppers.{AreAnswered}
 use Rattle.ring_seats.proofs.Moves.{begins_read, begins_write, opened_by}
 use Rattle.ring_seats.proofs.Answered.{quiet_step}
 use Rattle.ring_seats.proofs.Accesses.{end_at, may_still}

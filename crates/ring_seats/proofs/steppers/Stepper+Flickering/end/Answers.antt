@@ -1,17 +1,6 @@
 use Rattle.std.proofs.Common.{arith, ◌≡◌, ℕ, true, false, Some, ap, ◌∙◌, sym, subst, refl}
-use Rattle.atomic_table.specs.Table.{Allows}
-use Rattle.bits_core.specs.declared.events.Access.{Access}
-use Rattle.bits_core.specs.declared.events.Act.TheVariants.{ReadEnd, WriteEnd}
-use Rattle.bits_core.specs.Bits.{other}
-use Rattle.bits_core.specs.History.{open_access}
-use Rattle.bits_core.specs.Open.{IsOpenRight}
-use Rattle.ring_seats.specs.declared.views.View.{View}
-use Rattle.ring_seats.specs.Programs.{GoesOn}
-use Rattle.ring_seats.specs.Ring.{RingEnd}
-use Rattle.ring_seats.specs.Rule.{KeepsFlickerRule, event}
+use Rattle.ring_seats.proofs.Common.{Allows, Access, ReadEnd, WriteEnd, other, open_access, IsOpenRight, View, GoesOn, RingEnd, KeepsFlickerRule, event, AreAnswered, answer_of}
 use Rattle.ring_seats.proofs.Grown.{Added}
-use Rattle.ring_seats.specs.Steppers.{AreAnswered}
-use Rattle.ring_seats.specs.Words.{answer_of}
 use Rattle.ring_seats.proofs.Moves.{ends_read, ends_write, opened_by}
 use Rattle.ring_seats.proofs.Answered.{asked_once, asked_so, quiet_step, read_step}
 use Rattle.ring_seats.proofs.Accesses.{end_at, may_still}

@@ -1,7 +1,5 @@
-use Rattle.bits_core.specs.declared.events.Act.TheVariants.{ReadEnd, WriteEnd}
-use Rattle.ring_seats.specs.Rule.{event}
+use Rattle.ring_seats.proofs.Common.{ReadEnd, WriteEnd, event, answer_of}
 use Rattle.ring_seats.proofs.Grown.{Added}
-use Rattle.ring_seats.specs.Words.{answer_of}
 use Rattle.ring_seats.proofs.steppers.Stepper+Flickering.end.Given as goal
 
 abbrev pub ghosts-load : goal.ghosts-load

@@ -1,6 +1,5 @@
 use Rattle.std.proofs.Common.{sym, subst}
-use Rattle.bits_core.specs.declared.events.Access.{Access}
-use Rattle.ring_seats.specs.Steppers.{CanMake, HasMade}
+use Rattle.ring_seats.proofs.Common.{Access, CanMake, HasMade}
 use Rattle.ring_seats.proofs.steppers.Stepper+Flickering.make.Goals as goal
 
 pub read-requires-clause-can : goal.read-requires-clause-can

@@ -1,16 +1,6 @@
 use Rattle.std.proofs.Common.{arith, ◌≡◌, ℕ, true, false, List, refl, ap, sym, subst, ◌∙◌}
-use Rattle.atomic_table.specs.Table.{Allows}
-use Rattle.bits_core.specs.declared.events.Bit.{Bit}
-use Rattle.bits_core.specs.declared.events.Act.TheVariants.{ReadBegin, ReadEnd}
+use Rattle.ring_seats.proofs.Common.{Allows, Bit, ReadBegin, ReadEnd, Event, other, reader, belongs, CanMake, HasMade, AreAnswered, GoesOn, Ring, RingEnd, View, KeepsFlickerRule, event}
 use Rattle.bits_core.specs.declared.events.Access.TheVariants.{Read}
-use Rattle.bits_core.specs.declared.events.Event.{Event}
-use Rattle.bits_core.specs.Bits.{other, reader}
-use Rattle.bits_core.specs.Shape.{belongs}
-use Rattle.ring_seats.specs.Steppers.{CanMake, HasMade, AreAnswered}
-use Rattle.ring_seats.specs.Programs.{GoesOn}
-use Rattle.ring_seats.specs.Ring.{Ring, RingEnd}
-use Rattle.ring_seats.specs.declared.views.View.{View}
-use Rattle.ring_seats.specs.Rule.{KeepsFlickerRule, event}
 use Rattle.ring_seats.proofs.Grown.{Added}
 use Rattle.ring_seats.specs.Words.{answer_of, word_place, agrees}
 use Rattle.ring_seats.proofs.Accesses.{end_at, list_more, made_read, may_still, none_open}

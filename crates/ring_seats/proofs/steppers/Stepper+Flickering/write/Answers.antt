@@ -1,17 +1,7 @@
 use Rattle.std.proofs.Common.{◌≡◌, ℕ, true, false, List, refl, ap, sym, subst, ◌∙◌}
-use Rattle.atomic_table.specs.Table.{Allows}
-use Rattle.bits_core.specs.declared.events.Act.TheVariants.{WriteBegin, WriteEnd}
+use Rattle.ring_seats.proofs.Common.{Allows, WriteBegin, WriteEnd, Event, other, writer, belongs, CanMake, HasMade, AreAnswered, GoesOn, Ring, RingEnd, View, KeepsFlickerRule, event, word_place}
 use Rattle.bits_core.specs.declared.events.Access.TheVariants.{Write}
-use Rattle.bits_core.specs.declared.events.Event.{Event}
-use Rattle.bits_core.specs.Bits.{other, writer}
-use Rattle.bits_core.specs.Shape.{belongs}
-use Rattle.ring_seats.specs.Steppers.{CanMake, HasMade, AreAnswered}
-use Rattle.ring_seats.specs.Programs.{GoesOn}
-use Rattle.ring_seats.specs.Ring.{Ring, RingEnd}
-use Rattle.ring_seats.specs.declared.views.View.{View}
-use Rattle.ring_seats.specs.Rule.{KeepsFlickerRule, event}
 use Rattle.ring_seats.proofs.Grown.{Added}
-use Rattle.ring_seats.specs.Words.{word_place}
 use Rattle.ring_seats.proofs.Accesses.{end_at, list_more, made_write, may_still, none_open}
 use Rattle.ring_seats.proofs.Moves.{begins_write, ends_write, opened_by}
 use Rattle.ring_seats.proofs.Answered.{answered_then, quiet_step}

@@ -1,5 +1,4 @@
-use Rattle.bits_core.specs.declared.events.Act.TheVariants.{WriteBegin, WriteEnd}
-use Rattle.ring_seats.specs.Rule.{event}
+use Rattle.ring_seats.proofs.Common.{WriteBegin, WriteEnd, event}
 use Rattle.ring_seats.proofs.Grown.{Added}
 use Rattle.ring_seats.proofs.steppers.Stepper+Flickering.write.Given as goal
 
