@@ -255,6 +255,7 @@ fn find_filled<'a>(
 /// The first slots may hold items whatever is returned: after a fault those of the events before it.
 ///
 /// In use: the page, which has no allocator.
+#[tactic(auto, using(crate::proofs::Sentences::says_linearizable, ring_core::proofs::LawLemmas::ring_is_linearizable))]
 pub fn audit_into(
     shape: &Shape,
     events: &[Event],
