@@ -84,11 +84,8 @@ so_far_begins s list (Some b) a v due =
 pub not_whole : (s : Side) (xs ys : List Made) (e : Event) → events_of s xs ++ e ∷ [] ≡ events_of s ys → ⊥
 not_whole s xs ys e same = absurd (omega (arith, ap length same, length-append (events_of s xs) (e ∷ []), length-events s xs, length-events s ys))
 
-done_whole : (script : Content) (s : Side) (events : List Event) → IsDoneAfter script s events → (ys : List Made) × (events ≡ events_of s ys)
-done_whole script s events h1 = grind arith
-
 pub open_not_done : (script : Content) (s : Side) (h : List Event) (list : List Made) (a : Access) → subhistory s h ≡ so_far s list (Some a) → ¬ IsDone script s h
-open_not_done script s h list a are d = grind (arith, done_whole, not_whole)
+open_not_done script s h list a are d = grind (arith, not_whole)
 
 -- a prefix of a program is a program
 pub program_beginning : (script : Content) (s : Side) (xs ys : List Event) → IsProgram script s (xs ++ ys) → IsProgram script s xs
@@ -119,9 +116,3 @@ moves-idle script (l ∷ letters) letter past later (inr (n, (x, xs, is, of, m))
 pub sides-more : (h : List Event) (e : Event) → event_sides (h ++ e ∷ []) ≡ event_sides h ++ e.side ∷ []
 sides-more [] e = refl
 sides-more (x ∷ h) e = ap (λ (t : List Side). x.side ∷ t) (sides-more h e)
-
--- one step, in terms of letters
-pub moves_step :
-    (script : Content) (letters : List Side) (s : Side) (h h' : List Event) (moved : Bool) → AreMoves script letters [] h → IsMove script s moved h h' →
-    AreMoves script (letters ++ s ∷ []) [] h'
-moves_step script letters s h h' moved m h1 = grind (arith, moves-more, moves-idle)

@@ -67,12 +67,6 @@ end_move script s h h' due stands a e p o is by = (e, is, by, open_not_done scri
 
 -- ---- the last bit of a count is not read as 0
 
--- reads of 0 in all bits
-all_zero :
-    (row : ℕ → Bit) (list before : List Made) (last modulus : ℕ) (b : Bit) → list ≡ before ++ zero_reads row last → suc last ≡ modulus → b ≡ row last →
-    list ++ Read b false ∷ [] ≡ before ++ (zero_reads row modulus ++ [])
-all_zero row list before last modulus b e f g = grind (arith, append_assoc, append-nil)
-
 row_same : (s : Side) (i j : ℕ) (m : ℕ) → suc i ≡ m → suc j ≡ m → row_read_by s i ≡ row_read_by s j
 row_same s i j m e f = let same : i ≡ j = omega (arith, e, f) in ap (row_read_by s) same
 
@@ -82,7 +76,7 @@ not_missed :
     list ≡ before ++ zero_reads (row_bit s) last → suc last ≡ modulus_of shape → b ≡ row_bit s last → ⊥
 not_missed shape s h list before b last seen own_is list_is top b_is =
     let zeros : List Made = zero_reads (row_bit s) (modulus_of shape) in
-    let made : list ++ Read b false ∷ [] ≡ before ++ (zeros ++ []) = all_zero (row_bit s) list before last (modulus_of shape) b list_is top b_is in
+    let made : list ++ Read b false ∷ [] ≡ before ++ (zeros ++ []) = grind (arith, append_assoc, append-nil) in
     absurd (omega (
       arith,
       seen (list ++ Read b false ∷ []) before [] ([], append-nil (subhistory (other s) h) ∙ own_is) made,
@@ -102,9 +96,6 @@ never_false script P h list b lawful (calls, are, begins) own_is (before, last, 
 never_false script C h list b lawful (calls, are, begins) own_is (before, last, top, list_is) i b_is i_top =
     not_missed script.shape P h list before b last (last_bit_is_one_puts script.shape h calls lawful (record { are = are.are; events = begins })).1 own_is list_is top (b_is ∙ row_same C i last (modulus_of script.shape) i_top top)
 
-same_read : (b c : Bit) → Some (access.Read b) ≡ Some (access.Read c) → b ≡ c
-same_read b c e = cc
-
 pub answers_one :
     (script : Content) (s : Side) (h h' : List Event) (due : Option Access) (stands : Stands) (b : Bit) (v : Bool) → (p : IsPlaying s h due stands) →
     open_access s h ≡ Some (access.Read b) → h' ≡ h ++ record { side = s; bit = b; act = ReadEnd v } ∷ [] → IsLawful script.shape h' → IsProgram script (other s) (subhistory (other s) h) →
@@ -115,7 +106,7 @@ answers_one script s h h' due stands b false p o is lawful other_is zeros last =
     let (i, due_is, top) = last in
     let there : subhistory s h' ≡ events_of s (p.list ++ Read b false ∷ []) =
     ap (subhistory s) is ∙ own_by s h e refl ∙ ap (λ l. l ++ e ∷ []) (own_with s h due stands (Some (access.Read b)) p o) ∙ sym (events-more s p.list (access.Read b) false) in
-    grind (arith, own_other, never_false, same_read)
+    grind (arith, own_other, never_false)
 
 -- ---- no more accesses than a number can count
 

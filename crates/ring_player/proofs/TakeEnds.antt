@@ -7,7 +7,7 @@ use Rattle.ring_core.specs.ConsumerCalls.{and_end, and_take, AreItemsOfTake, cou
 use Rattle.ring_core.specs.Items.{all_taken, taken_of}
 use Rattle.ring_core.proofs.Machines.TakeCalls.{reply-push, items-push}
 use Rattle.ring_player.proofs.Nexts.{IsNextTake, NextTake as NextOf}
-use Rattle.ring_player.proofs.TakeLists.{empty_in, after_is, all-more, all_are, empties-more, take_of_calls, take_within, taken-more}
+use Rattle.ring_player.proofs.TakeLists.{empty_in, after_is, all-more, all_are, empties-more, take_within, taken-more}
 use Rattle.ring_player.proofs.Takings.{at_rest_is, goes_on, HasMovedFrom, next_in, one_more}
 
 -- what the actor keeps for a reply, by the items that the machine has

@@ -31,10 +31,6 @@ pub take_at : (shape : Shape) (k : ℕ) (xs : List Take) (x : Take) (ys : List T
 take_at shape k [] x ys end are = are.0
 take_at shape k (y ∷ xs) x ys end are = take_at shape (taken_after k y) xs x ys end are.1
 
--- the same in terms of calls
-pub take_of_calls : (shape : Shape) (wanted : ℕ) (calls : Takes) (x : Take) → IsTakeOf shape (count_taken shape calls).number wanted x → IsTakeOf shape (taken_in 0 calls.takes) wanted x
-take_of_calls shape wanted calls x of = subst (λ (k : ℕ). IsTakeOf shape k wanted x) (taken_number shape first_count calls.takes) of
-
 -- ---- their replies
 
 -- how many takes found the ring empty, by a reply

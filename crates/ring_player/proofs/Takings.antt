@@ -7,9 +7,10 @@ use Rattle.ring_player.specs.Plays.{AreWantedBy, IsDoneAfter, IsProgram}
 use Rattle.ring_player.specs.Wants.{AreTakesOf, wanted_at}
 use Rattle.ring_player.proofs.Nexts.{IsNextTake, NextTake as NextOf}
 use Rattle.ring_player.proofs.Moves.{events-more, goes_longer, program_beginning, split_last}
-use Rattle.ring_player.proofs.TakeLists.{all_are, taken_rises, take_of_calls}
+use Rattle.ring_player.proofs.TakeLists.{all_are, taken_rises}
 use Rattle.ring_core.proofs.Readings.TakesRead.{same_calls}
 use Rattle.ring_core.proofs.LawLemmas.{calls_are_first_takes}
+use Rattle.ring_core.proofs.OverSpans.CallSpans.{taken_number}
 
 -- ---- takes that the script asks for
 
@@ -23,7 +24,7 @@ wanted-more script k (y ∷ xs) x are left of = (are.0, are.1, wanted-more scrip
 pub one_more :
     (script : Content) (calls more : Takes) → AreTakesOf script calls → taken_in 0 calls.takes < script.takes → HasTakeMore script.shape (wanted_at script (taken_in 0 calls.takes)) calls more →
     AreTakesOf script more
-one_more script calls more are left has = grind (arith, wanted-more, take_of_calls)
+one_more script calls more are left has = grind (arith, wanted-more, taken_number)
 
 -- ---- the program
 
@@ -53,16 +54,10 @@ pub at_rest_is :
     made ≡ take_program shape calls
 at_rest_is shape wanted calls taking made due e next = grind arith
 
--- the take under way asks for as many items as the world does
-of_wanted :
-    (shape : Shape) (wanted w : ℕ) (calls : Takes) (taking : Bool) (made : List Made) (due : Option Access) → (taking ≡ true → wanted ≡ w) → IsNextTake shape wanted calls taking made due →
-    IsNextTake shape w calls taking made due
-of_wanted shape wanted w calls taking made due same next = grind arith
-
 pub next_in :
     (script : Content) (p : ConsumerState) (taken : List ℕ) (told : Bool) (empty : ℕ) (list : List Made) (o due : Option Access) → (s : TakeActorStands script p taken told empty list o) → NextOf p due →
     IsNextTake script.shape (wanted_at script (taken_in 0 s.calls.takes)) s.calls (is_taking p) list due
-next_in script p taken told empty list o due s next = grind (arith, of_wanted)
+next_in script p taken told empty list o due s next = grind arith
 
 -- the same takes, of a machine that stands after these accesses
 stands_with :

@@ -22,12 +22,6 @@ use Rattle.bits_core.proofs.LawLemmas.{subhistory_changes}
 abbrev Telling : Type 0
 Telling = ℕ → List calls.Event
 
-own_first : (s : Side) (x : Event) (h : List Event) → x.side ≡ s → length (subhistory s (x ∷ h)) ≡ suc (length (subhistory s h))
-own_first s x h e = ap (λ (t : Bool). length (if t then x ∷ subhistory s h else subhistory s h)) (is_by_side s x e)
-
-own_not_first : (s : Side) (x : Event) (h : List Event) → x.side ≡ s → length (subhistory (other s) (x ∷ h)) ≡ length (subhistory (other s) h)
-own_not_first s x h e = ap (λ (t : Bool). length (if t then x ∷ subhistory (other s) h else subhistory (other s) h)) (not_by s x e)
-
 -- what the last event records, after a number of events of the two sides
 abbrev last_told : Telling → Telling → (p c : ℕ) → List Event → Event → List calls.Event
 last_told f g p c h e = by_side e.side (f (p + length (subhistory P h))) (g (c + length (subhistory C h)))
@@ -40,20 +34,15 @@ told-more f g p c (x ∷ h) e = by_first (λ a b. told-more f g a b h e) x.side 
     now = by_side x.side (f p) (g c)
 
     by_first : ((a b : ℕ) → calls_told f g a b (h ++ e ∷ []) ≡ calls_told f g a b h ++ last_told f g a b h e) → (s : Side) → x.side ≡ s → calls_told f g p c ((x ∷ h) ++ e ∷ []) ≡ calls_told f g p c (x ∷ h) ++ last_told f g p c (x ∷ h) e
-    by_first more P is = grind (arith, own_first, own_not_first, append_assoc)
+    by_first more P is = grind (arith, is_by_side, not_by, append_assoc)
     by_first more C is =
         let later : calls_told f g (by_side x.side (suc p) p) (by_side x.side c (suc c)) (h ++ e ∷ []) ≡
         calls_told f g (by_side x.side (suc p) p) (by_side x.side c (suc c)) h ++ last_told f g p (suc c) h e =
         more (by_side x.side (suc p) p) (by_side x.side c (suc c))
         ∙ ap (λ s. calls_told f g (by_side x.side (suc p) p) (by_side x.side c (suc c)) h ++ last_told f g (by_side s (suc p) p) (by_side s c (suc c)) h e) is in
-        let place : last_told f g p (suc c) h e ≡ last_told f g p c (x ∷ h) e = grind (arith, ap₂, own_not_first, own_first) in
+        let place : last_told f g p (suc c) h e ≡ last_told f g p c (x ∷ h) e = grind (arith, ap₂, not_by, is_by_side) in
         ap (λ l. now ++ l) (later ∙ ap (λ l. calls_told f g (by_side x.side (suc p) p) (by_side x.side c (suc c)) h ++ l) place)
         ∙ sym (append_assoc now (calls_told f g (by_side x.side (suc p) p) (by_side x.side c (suc c)) h) (last_told f g p c (x ∷ h) e))
-
-told-last :
-    (f g : Telling) (h : List Event) (e : Event) →
-    calls_told f g 0 0 (h ++ e ∷ []) ≡ calls_told f g 0 0 h ++ by_side e.side (f (length (subhistory P h))) (g (length (subhistory C h)))
-told-last f g h e = grind (arith, told-more)
 
 -- ---- what is recorded of it
 
@@ -84,7 +73,7 @@ module _ (script : Content) (h h' : List Event) (e : Event) (is : h' ≡ h ++ e 
       told_in script told ≡ by_side s (put_told script.shape (offers_of script puts) 0 first_count puts.puts puts.closes (length (subhistory P h)))
       (take_told script.shape (wants_of script takes) 0 first_count takes.takes takes.end (length (subhistory C h)))) →
       (events : List calls.Event) → TellsCalls script h events → TellsCalls script h' (events ++ told_in script told)
-  tells_more s by told told_is events tells puts takes r = grind (arith, reading_before, told-last)
+  tells_more s by told told_is events tells puts takes r = grind (arith, reading_before, told-more)
 
   -- by what its own side records: the stage of that side then, and what is recorded
   moves_on :

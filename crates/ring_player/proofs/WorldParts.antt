@@ -17,7 +17,7 @@ use Rattle.ring_player.specs.SoFar.{PutSoFar, TakenSoFar}
 use Rattle.ring_player.specs.Worlds.{IsWorld, Played}
 use Rattle.ring_core.proofs.OwnEvents.{clock_end}
 use Rattle.ring_player.proofs.Flickers.{in_turn}
-use Rattle.ring_player.proofs.Moves.{moves-more, moves_step, not_by, own_other, sides-more}
+use Rattle.ring_player.proofs.Moves.{moves-more, not_by, own_other, sides-more, moves-idle}
 use Rattle.ring_player.proofs.Steps.{Stands}
 pub use Rattle.ring_audit.proofs.Rooms.{on_err}
 use Rattle.ring_core.proofs.LawLemmas.{calls_over_are_read_takes, items_taken_are_read}
@@ -41,9 +41,6 @@ playing_other script s h h' due stands (inl (e, is, by, n)) p =
     grind (arith, own_other)
 playing_other script s h h' due stands (inr is) p = subst (λ (t : List Event). IsPlaying (other s) t due stands) (sym is) p
 
-moves_grown : (script : Content) (s : Side) (h h' : List Event) → Grown script s h h' → AreMoves script (event_sides h) [] h → AreMoves script (event_sides h') [] h'
-moves_grown script s h h' h1 m = grind (arith, moves-more, sides-more)
-
 pub producer_steps :
     {E : Type 0} (script : Content) (m m' : MemoryState) (ps ps' cs : Content) (pd pd' cd : Option Access) (pt pt' ct : Stands) (a a' : ℕ → Bool) (r : Result Bool E) → IsWorld script m ps cs pd cd pt ct a →
     m'.shape ≡ m.shape → ps' ≡ ps → IsPlaying P m'.events pd' pt' → IfOk r (λ moved. IsMove ps P moved m.events m'.events) → OnErr r (m'.events ≡ m.events) → ((turns : ℕ → Bool) → IsAtTurn turns m.events a → IsAtTurn turns m'.events a') →
@@ -57,7 +54,7 @@ producer_steps script m m' ps ps' cs pd pd' cd pt pt' ct a a' r w shape same pla
       puts = playing;
       takes = playing_other script P m.events m'.events cd ct g' w.takes;
       oracle = turns (turn script.oracle) w.oracle;
-      moves = moves_grown script P m.events m'.events g' w.moves;
+      moves = grind (arith, moves-more, sides-more);
     }
 
 pub consumer_steps :
@@ -73,7 +70,7 @@ consumer_steps script m m' ps cs cs' pd cd cd' pt ct ct' a a' r w shape same pla
       puts = playing_other script C m.events m'.events pd pt g' w.puts;
       takes = playing;
       oracle = turns (turn script.oracle) w.oracle;
-      moves = moves_grown script C m.events m'.events g' w.moves;
+      moves = grind (arith, moves-more, sides-more);
     }
 
 -- ---- the history is a play
@@ -90,18 +87,12 @@ is_play holds fills script letters h plays = record { plays = plays; headline = 
 pub letters_of :
     {E : Type 0} (script script' : Content) (s : Side) (h h' : List Event) (r : Result Bool E) → script' ≡ script → IfOk r (λ moved. IsMove script s moved h h') → IsPlayed script' h' →
     OnOk r ((letters : List Side) → Plays script letters h → Plays script' (letters ++ s ∷ []) h')
-letters_of script script' s h h' r same m played = grind (arith, moves_step)
-
-pub new_playing : (s : Side) (due : Option Access) (stands : Stands) → stands [] None → IsPlaying s [] due stands
-new_playing s due stands there = grind arith
-
-pub new_turn : (turns answers : ℕ → Bool) → ((i : ℕ) → answers i ≡ turns i) → IsAtTurn turns [] answers
-new_turn turns answers same = grind arith
+letters_of script script' s h h' r same m played = grind (arith, moves-more, moves-idle)
 
 pub new_world :
     (script : Content) (m : MemoryState) (ps cs : Content) (pd cd : Option Access) (pt ct : Stands) (a : ℕ → Bool) → m.shape ≡ script.shape → m.events ≡ [] → ps ≡ script → cs ≡ script →
     pt [] None → ct [] None → ((i : ℕ) → a i ≡ turn script.oracle i) → IsWorld script m ps cs pd cd pt ct a
-new_world script m ps cs pd cd pt ct a shape empty p q puts takes oracle = grind (arith, new_playing, new_turn)
+new_world script m ps cs pd cd pt ct a shape empty p q puts takes oracle = grind arith
 
 -- ---- what was taken, and whether a take returned Closed
 

@@ -2,7 +2,6 @@ use Rattle.std.proofs.Common.{◌≡◌, ◌⊎◌, ◌<◌, ◌≤◌, inl, inr
 use Rattle.bits_core.specs.Shape.{take_batch_of}
 use Rattle.ring_player.proofs.Nexts.{take_next, NextTake as NextOf}
 use Rattle.ring_player.proofs.Puttings.{none_of}
-use Rattle.ring_player.proofs.TakeBatches.{none_wanted}
 use Rattle.ring_player.proofs.Takings.{began_take, is_done}
 use Rattle.ring_script.specs.Borrowed.{content_of}
 use Rattle.ring_player.proofs.taking.TakeActor.begin_take.Goals as goal
@@ -24,5 +23,5 @@ pub returns-else-not-self-clause-done : goal.returns-else-not-self-clause-done
 returns-else-not-self-clause-done g c none list s =
     let x = c.args.self.now in
     let next : NextOf x.consumer None = subst (λ d. NextOf x.consumer d) (none_of c.next.result (sym c.is_some.ensures ∙ c.if-is_some.false)) (take_next _ _ c.next.ensures.rest c.next.ensures.goes_on) in
-    let over : (x.told ≡ true) ⊎ ((content_of x.script).takes ≤ length (g.T.Store.items x.taken)) = grind (arith, none_wanted, c.wanted-wanted.ensures.value) in
+    let over : (x.told ≡ true) ⊎ ((content_of x.script).takes ≤ length (g.T.Store.items x.taken)) = grind (arith, c.wanted-wanted.ensures.value) in
     is_done (content_of x.script) x.consumer (g.T.Store.items x.taken) x.told x.empty list s next over
