@@ -45,10 +45,6 @@ pub asked_so : {O : Type 0} (answers : O → ℕ → Bool) (old new : O) (agree 
     → (i : ℕ) → answers new i ≡ answers old (i + (if agree then 0 else 1))
 asked_so answers old new agree h1 h2 i = grind arith
 
--- and that it was asked at most once
-pub asked_once : {O : Type 0} (answers : O → ℕ → Bool) (old new : O) (agree : Bool) → (agree ≡ true → new ≡ old) → (agree ≡ false → (i : ℕ) → answers new i ≡ answers old (i + 1)) → IsAskedOnce answers old new
-asked_once answers old new agree h1 h2 = grind arith
-
 module _ (ring : Ring) (x : Side) (b : Bit) where
   -- a step that ends no read
   pub quiet_step : (a : Act) (got : ℕ) (v w : View) → w ≡ and_event x (event x b a) got v → kept_loads a v.first got v.loads ≡ v.loads → and_answer a [] ≡ [] → (said : ℕ → Bool)

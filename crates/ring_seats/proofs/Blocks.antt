@@ -5,12 +5,13 @@ use Rattle.std.proofs.lemmas.List.Elements.{filter_map-append}
 use Rattle.bits_core.specs.Bits.{other, writer, same_side, same_bit, is_by, value_written}
 use Rattle.bits_core.specs.History.{open_access, held, last_value}
 use Rattle.bits_core.specs.Made.{Made, Read, Write, access_of, begin_event, end_event, events_of, subhistory}
-use Rattle.ring_seats.proofs.Histories.{by_case, same_side-true, either_side, before_last-mine, own-mine, own-theirs, open-mine, open-theirs}
+use Rattle.ring_seats.proofs.Histories.{by_case, same_side-true, either_side, own-mine, own-theirs, open-mine}
 use Rattle.ring_seats.proofs.Rights.{AllRight}
 use Rattle.ring_seats.proofs.Moves.{ring_more}
 use Rattle.bits_core.proofs.MadeLemmas.{begin_begins as begun_begin, begin_by as begin_side, end_begins_none as begun_end}
 pub use Rattle.bits_core.proofs.OwnOpen.{by_end}
 pub use Rattle.ring_core.proofs.Machines.Following.{events_of-append}
+use Rattle.bits_core.proofs.LawLemmas.{open_changes, before_last_changes}
 
 -- a lawful history whose sides follow their programs, with no access open
 pub record QuietRing (shape : Shape) (h : List Event) : Type 0 where
@@ -53,10 +54,6 @@ pub last_append : (v : Bool) (xs ys : List Bool) → last_value v (xs ++ ys) ≡
 last_append v [] ys = refl
 last_append v (x ∷ xs) ys = last_append x xs ys
 
--- an access of the list
-left_one : (list : List Event) (x : Side) (m : Made) (b : Bit) → value_left (list ++ events_of x (m ∷ [])) b ≡ wrote (value_left list) m b
-left_one list x m b = grind (arith, filter_map-append, last_append)
-
 -- what follows from the bits of two lists that are the same
 pub after_at : (made : List Made) (bits bits' : Bit → Bool) (b : Bit) → ((c : Bit) → bits c ≡ bits' c) → after bits made b ≡ after bits' made b
 after_at made bits bits' b h1 = grind arith
@@ -71,7 +68,7 @@ answers_same made bits bits' h1 h2 = grind arith
 -- the values left by the events of accesses
 pub left_by-made : (x : Side) (made : List Made) (list : List Event) (b : Bit) → value_left (list ++ events_of x made) b ≡ after (value_left list) made b
 left_by-made x [] list b = ap (λ (l : List Event). value_left l b) (append-nil list)
-left_by-made x (m ∷ made) list b = grind (arith, after_at, append_assoc, left_one, (left_by-made x made (list ++ events_of x (m ∷ [])) b))
+left_by-made x (m ∷ made) list b = grind (arith, after_at, append_assoc, filter_map-append, last_append, (left_by-made x made (list ++ events_of x (m ∷ [])) b))
 
 not_begin : (s : Side) (x : Made) → is_by (other s) (begin_event s x) ≡ false
 not_begin s x = grind arith
@@ -91,7 +88,7 @@ module _ (shape : Shape) (x : Side) where
   begun h m = open-mine x h (begin_event x m) (by_begin x m) ∙ begun_begin x m
 
   end_may : (h : List Event) (m : Made) → IsOpenRight shape x (access_of m) → AnswersOne (λ b. held b h) m → MayFollow shape (h ++ begin_event x m ∷ []) (end_event x m)
-  end_may h m h1 h2 = grind (arith, before_last-mine, begun, by_begin)
+  end_may h m h1 h2 = grind (arith, before_last_changes, begun, by_begin)
 
   held_begin : (h : List Event) (m : Made) → IsLawful shape h → ((y : Side) → open_access y h ≡ None) → (b : Bit) → held b (h ++ begin_event x m ∷ []) ≡ held b h
   held_begin h m lawful idle b = grind (arith, held_changes)
@@ -120,7 +117,7 @@ module _ (shape : Shape) (x : Side) where
   mine_one h m = own-mine x (h ++ begin_event x m ∷ []) (end_event x m) (by_end x m) ∙ ap (λ (l : List Event). l ++ end_event x m ∷ []) (own-mine x h (begin_event x m) (by_begin x m))
 
   idle_one : (h : List Event) (m : Made) → ((y : Side) → open_access y h ≡ None) → (y : Side) → open_access y ((h ++ begin_event x m ∷ []) ++ end_event x m ∷ []) ≡ None
-  idle_one h m idle y = grind (arith, begun_end, by_end, either_side, not_begin, not_end, open-mine, open-theirs)
+  idle_one h m idle y = grind (arith, begun_end, by_end, either_side, not_begin, not_end, open-mine, open_changes)
 
   pub block : (made : List Made) (h : List Event) → QuietRing shape h → AllRight shape x made → Answers (λ b. held b h) made → Follows shape x (subhistory x h ++ events_of x made) → Blocked h made
   block [] h q r a f = grind (arith, append-nil)

@@ -413,14 +413,11 @@ module _ (shape : Shape) (slots id : ℕ) (me : Me (Unit {0}) View) where
 
 -- ---- the ring before any step
 
-first_zero : (shape : Shape) (i : ℕ) → i < words_of shape → slice_index (first_counts shape) i ≡ 0
-first_zero shape i lt = get_or-replicate (words_of shape) i 0 0 lt
-
 count_below : (shape : Shape) (x : Side) → count_place x < words_of shape
 count_below shape x = grind arith
 
 shows_first : (shape : Shape) → ShowsWords shape (first_counts shape) []
-shows_first shape = grind (arith, count_below, first_zero, pow_pos)
+shows_first shape = grind (arith, count_below, get_or-replicate, pow_pos)
 
 pub opens : (shape : Shape) → KeptWords shape (opening (first_counts shape) [] (joint [] [] [] []))
 opens shape = opens_so words_of ShowsWords shape (first_counts shape) (length-replicate (words_of shape) 0) (shows_first shape)

@@ -30,12 +30,6 @@ own-theirs x h e by = subhistory_changes x h e ∙ ap (λ t. if t then subhistor
 pub open-mine : (x : Side) (h : List Event) (e : Event) → is_by x e ≡ true → open_access x (h ++ e ∷ []) ≡ begun_by e
 open-mine x h e by = open_changes x h e ∙ ap (λ t. if t then begun_by e else open_access x h) by
 
-pub open-theirs : (x : Side) (h : List Event) (e : Event) → is_by x e ≡ false → open_access x (h ++ e ∷ []) ≡ open_access x h
-open-theirs x h e by = open_changes x h e ∙ ap (λ t. if t then begun_by e else open_access x h) by
-
-pub before_last-mine : (s : Side) (h : List Event) (e : Event) → is_by s e ≡ true → before_last s (h ++ e ∷ []) ≡ h
-before_last-mine s h e by = before_last_changes s h e ∙ ap (λ t. if t then h else before_last s h) by
-
 -- the word of a bit after one more event
 shown-more : (shape : Shape) (b : Bit) (h : List Event) (e : Event) → IsLawful shape h →
     shown b (h ++ e ∷ []) ≡ (if is_by (writer b) e then word_shown (write_of b e) (unwrap_or (open_write b h) (held b h)) else shown b h)
@@ -44,13 +38,9 @@ shown-more shape b h e lawful = grind (arith, held_changes, open_write_changes)
 shown-theirs : (shape : Shape) (b : Bit) (h : List Event) (e : Event) → IsLawful shape h → is_by (writer b) e ≡ false → shown b (h ++ e ∷ []) ≡ shown b h
 shown-theirs shape b h e lawful by = shown-more shape b h e lawful ∙ ap (λ t. if t then word_shown (write_of b e) (unwrap_or (open_write b h) (held b h)) else shown b h) by
 
-shown-mine : (shape : Shape) (b : Bit) (h : List Event) (e : Event) → IsLawful shape h → is_by (writer b) e ≡ true →
-    shown b (h ++ e ∷ []) ≡ word_shown (write_of b e) (unwrap_or (open_write b h) (held b h))
-shown-mine shape b h e lawful by = shown-more shape b h e lawful ∙ ap (λ t. if t then word_shown (write_of b e) (unwrap_or (open_write b h) (held b h)) else shown b h) by
-
 -- if no write of the bit is open, and none begins
 calm : (shape : Shape) (b : Bit) (h : List Event) (e : Event) → IsLawful shape h → open_write b h ≡ None → write_of b e ≡ None → shown b (h ++ e ∷ []) ≡ shown b h
-calm shape b h e lawful none not_begun = grind (arith, by_case, shown-mine, shown-theirs)
+calm shape b h e lawful none not_begun = grind (arith, by_case, shown-more, shown-theirs)
 
 -- the open write of a bit, by the open access of its writer
 open_write-of : (x : Side) (b : Bit) (h : List Event) (o : Option Access) → same_side (writer b) x ≡ true → open_access x h ≡ o → open_write b h ≡ value_written b o
@@ -68,17 +58,14 @@ module _ (shape : Shape) (x : Side) (c : Bit) (h : List Event) (lawful : IsLawfu
   shown-apart a h1 b h2 = grind (arith, by_case, calm, open_write-of, shown-read_begin, shown-read_end, shown-theirs)
 
   pub shown-write_begin : (v : Bool) → x ≡ writer c → shown c (h ++ event x c (WriteBegin v) ∷ []) ≡ 2
-  shown-write_begin v is = grind (arith, same_bit-same, same_side-same, shown-mine)
+  shown-write_begin v is = grind (arith, same_bit-same, same_side-same, shown-more)
 
   pub shown-write_end : (v : Bool) → x ≡ writer c → open_access x h ≡ Some (Write c v) → shown c (h ++ event x c WriteEnd ∷ []) ≡ value_word v
-  shown-write_end v is at = grind (arith, open_write-of, same_bit-same, same_side-same, shown-mine)
+  shown-write_end v is at = grind (arith, open_write-of, same_bit-same, same_side-same, shown-more)
 
 -- ---- the two loads of a read
-
-answer-small : (n : ℕ) (said : Bool) (v : Bool) → n ≡ value_word v → answer_of n n said ≡ v
-answer-small n said v h1 = grind arith
 
 -- the answer made from two loads is permitted
 pub permitted : (shape : Shape) (x : Side) (b : Bit) (h : List Event) (first found : ℕ) (said : Bool) → IsLawful shape h → x ≡ reader b →
     first ≡ shown b (before_last x h) → found ≡ shown b h → IsAnswer h x b (answer_of first found said)
-permitted shape x b h first found said lawful is begin now = search (rules, answer-small, by_case, quiet_is_held)
+permitted shape x b h first found said lawful is begin now = search (rules, by_case, quiet_is_held)

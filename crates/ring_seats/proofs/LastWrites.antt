@@ -68,20 +68,14 @@ is_last_now x row made list = record { before = list; after = []; list_is = sym 
 left_last : (x : Side) (row : ℕ → Bit) (made : List Event → List Made) (list : List Event) (a : AreLast x row made list) (i : ℕ) → value_left list (row i) ≡ after (value_left a.before) (made a.before) (row i)
 left_last x row made list a i = grind (arith, append-nil, left_by-made, writes_more)
 
-left_first : (row : ℕ → Bit) (list : List Event) → NoWriteOf row list → (i : ℕ) → value_left list (row i) ≡ first_value (row i)
-left_first row list none i = ap (last_value (first_value (row i))) (none i)
-
 -- ---- what a bit holds while its writer has no access open
 
 abbrev Left : Bit → List Event → Type 0
 Left b h = unwrap_or (open_write b h) (held b h) ≡ value_left (subhistory (writer b) h) b
 
-after_one : (o : Option Bool) (u v : Bool) → u ≡ v → unwrap_or o u ≡ last_value v (cons_option o [])
-after_one o u v h1 = grind arith
-
 module _ (shape : Shape) (b : Bit) where
   one_left : (h : List Event) (e : Event) → IsLawful shape h → Left b h → Left b (h ++ e ∷ [])
-  one_left h e lawful is = grind (arith, after_one, held_changes, last_append, open_write_changes, subhistory_changes, writes_more)
+  one_left h e lawful is = grind (arith, held_changes, last_append, open_write_changes, subhistory_changes, writes_more)
 
   all_left : (ys xs : List Event) → IsLawful shape (xs ++ ys) → Left b xs → Left b (xs ++ ys)
   all_left [] xs lawful is = subst (Left b) (sym (append-nil xs)) is
@@ -136,13 +130,10 @@ count_shows shape x list c lt (inr t) = grind arith
 same_cell : (j i k : ℕ) → same_bit (Cell j i) (Cell j k) ≡ (i == k)
 same_cell j i k = grind (arith, nat_tests)
 
-one_digit : (item n i : ℕ) (u : Bool) → (i < n → u ≡ digit i item) → (i ≡ n) ⊎ (i < n) → (if i == n then digit n item else u) ≡ digit i item
-one_digit item n i u h1 h2 = grind arith
-
 word_written : (j item n : ℕ) (bits : Bit → Bool) (i : ℕ) → i < n → after bits (writes_in (Cell j) (digit_writes item n)) (Cell j i) ≡ digit i item
 word_written j item zero bits i lt = absurd (omega (arith, lt))
-word_written j item (suc n) bits i lt = grind (arith, after, after-append, at_or_below, map-append, one_digit, same_cell, (word_written j item n bits i))
+word_written j item (suc n) bits i lt = grind (arith, after, after-append, at_or_below, map-append, same_cell, (word_written j item n bits i))
 
 pub item_shows : (width j : ℕ) (list : List Event) (item : ℕ) → IsLastItem width j list item → (i : ℕ) → i < width → value_left list (Cell j i) ≡ digit i item
 item_shows width j list item (inl a) i lt = left_last P (Cell j) (λ before. word_write width j item) list a i ∙ word_written j item width (value_left a.before) i lt
-item_shows width j list item (inr t) i lt = left_first (Cell j) list t.0 i ∙ (sym (zero_digit i) ∙ ap (digit i) (sym t.1))
+item_shows width j list item (inr t) i lt = grind arith

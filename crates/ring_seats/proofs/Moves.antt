@@ -11,8 +11,8 @@ use Rattle.ring_seats.specs.Words.{value_word, shown, answer_of, word_place, wor
 use Rattle.ring_seats.specs.Rule.{event, joint, spent, putter_of, taker_of, joined, may_step, list_of, IsIdle, FirstLoad, SeatKnows, SeatsKnow, HasSeats, KeptBy, KeepsFlickerRule, IsWordFound, Learned}
 use Rattle.ring_seats.proofs.Grown.{kept_load, and_event, Added}
 use Rattle.ring_seats.proofs.Places.{one_or_apart, place_below, shows_first}
-use Rattle.ring_seats.proofs.Histories.{same_side-same, either_side, before_last-mine, before_last-theirs, own-mine, own-theirs, open-mine, open-theirs, shown-read_begin, shown-read_end, shown-apart, shown-write_begin, shown-write_end, permitted, same_side-other as not_by}
-use Rattle.bits_core.proofs.LawLemmas.{empty_is_lawful, lawful_by_one_more, open_from_own}
+use Rattle.ring_seats.proofs.Histories.{same_side-same, either_side, before_last-theirs, own-mine, own-theirs, open-mine, shown-read_begin, shown-read_end, shown-apart, shown-write_begin, shown-write_end, permitted, same_side-other as not_by}
+use Rattle.bits_core.proofs.LawLemmas.{empty_is_lawful, lawful_by_one_more, open_from_own, open_changes, before_last_changes}
 use Rattle.ring_core.proofs.LawLemmas.{runs_by_one_more_put, runs_by_one_more_take}
 
 -- what a step of the side x at the bit b needs of the history so far, if the word becomes `new`, and a load found or a store wrote `got`
@@ -73,10 +73,10 @@ module _ (shape : Shape) where
   shows_more words x b a h new lawful may wide has shows is c has' = grind (arith, get_or-set_other, get_or-set_same, one_or_apart, place_below, set, shown-apart)
 
   load_mine : (x : Side) (b : Bit) (a : Act) (h : List Event) (got load : ℕ) → (a ≡ ReadBegin → got ≡ shown b h) → FirstLoad x (h ++ event x b a ∷ []) (kept_load a got load)
-  load_mine x b a h got load is c o = grind (arith, before_last-mine, open-mine, same_side-same)
+  load_mine x b a h got load is c o = grind (arith, before_last_changes, open-mine, same_side-same)
 
   load_theirs : (x : Side) (b : Bit) (a : Act) (h : List Event) (load : ℕ) → FirstLoad (other x) h load → FirstLoad (other x) (h ++ event x b a ∷ []) load
-  load_theirs x b a h load f c o = grind (arith, before_last-theirs, not_by, open-theirs)
+  load_theirs x b a h load f c o = grind (arith, before_last-theirs, not_by, open_changes)
 
   fits_mine : (x : Side) (b : Bit) (a : Act) (h known : List Event) (owner : Side → ℕ) (seat : ℕ) (v : View) (got : ℕ) → (a ≡ ReadBegin → got ≡ shown b h) → SeatKnows h known owner seat v x
       → SeatKnows (h ++ event x b a ∷ []) known owner seat (and_event x (event x b a) got v) x
@@ -392,9 +392,6 @@ module _ (shape : Shape) where
 
 -- the ring before any step
 
-pub first_seat : (seat : ℕ) (v : View) → get_elem? (joint [] [] [] [] ∷ []) seat ≡ some v → (x : Side) → may_step x v ≡ true → SeatKnows [] [] (λ _. 0) seat v x
-first_seat seat v h1 x h2 = grind arith
-
 pub first_each : HasSeats (λ _. 0) (joint [] [] [] [] ∷ [])
 first_each P = (joint [] [] [] [], refl, refl)
 first_each C = (joint [] [] [] [], refl, refl)
@@ -412,7 +409,7 @@ opens_so count IsShown shape words wide shows = record {
   shows = shows;
   begins = ([], refl);
   each = first_each;
-  seats = first_seat;
+  seats = grind arith;
 }
 
 pub opens : (shape : Shape) → KeepsFlickerRule shape (opening (first_words shape) [] (joint [] [] [] []))

@@ -21,10 +21,6 @@ one_cell w j k i l h h' e = go (dec_lt j k) (dec_lt k j)
     go (no a) (yes b) = let up = higher w k j l i h' b in absurd (omega arith)
     go (no a) (no b) = let same : j ≡ k = omega arith in let rows : j * w ≡ k * w = ap (λ (n : ℕ). n * w) same in (same, omega arith)
 
--- a cell's digits lie before the next cell
-in_cell : (shape : Shape) (i : ℕ) → nat_lt i (width_of shape) ≡ true → i < cell_words shape
-in_cell shape i h = let lt = ltb-true i (width_of shape) h in omega arith
-
 -- two bits of the shape are the same, or have different words
 abbrev OneOrApart : Shape → Bit → Bit → Type 0
 OneOrApart shape b c = (b ≡ c) ⊎ ((same_bit c b ≡ false) × (word_place shape c ≢ word_place shape b))
@@ -44,7 +40,7 @@ one_or_apart shape (R i) X hb hc = inr (refl, λ same. omega arith)
 one_or_apart shape X (S j) hb hc = inr (refl, λ same. omega arith)
 one_or_apart shape X (R j) hb hc = inr (refl, λ same. omega arith)
 one_or_apart shape X X hb hc = inl refl
-one_or_apart shape (Cell j i) (Cell k l) hb hc = search (rules, and_parts, cells_apart, in_cell)
+one_or_apart shape (Cell j i) (Cell k l) hb hc = search (rules, and_parts, cells_apart, ltb-true)
 one_or_apart shape (Cell j i) (S k) hb hc = let lt = ltb-true k (modulus_of shape) hc in inr (refl, λ same. omega arith)
 one_or_apart shape (Cell j i) (R k) hb hc = let lt = ltb-true k (modulus_of shape) hc in inr (refl, λ same. omega arith)
 one_or_apart shape (Cell j i) X hb hc = inr (refl, λ same. omega arith)

@@ -2,7 +2,7 @@ use Rattle.std.proofs.Common.{arith, ◌≡◌, ℕ, true, false, Some, ap, ◌�
 use Rattle.ring_seats.proofs.Common.{Allows, Access, ReadEnd, WriteEnd, other, open_access, IsOpenRight, View, GoesOn, RingEnd, KeepsFlickerRule, event, AreAnswered, answer_of}
 use Rattle.ring_seats.proofs.Grown.{Added}
 use Rattle.ring_seats.proofs.Moves.{ends_read, ends_write, opened_by}
-use Rattle.ring_seats.proofs.Answered.{asked_once, asked_so, quiet_step, read_step}
+use Rattle.ring_seats.proofs.Answered.{asked_so, quiet_step, read_step}
 use Rattle.ring_seats.proofs.Accesses.{end_at, may_still}
 use Rattle.ring_seats.proofs.steppers.Stepper+Flickering.end.Goals as goal
 
@@ -71,7 +71,7 @@ pub returns-in-Read-clause-grows : goal.returns-in-Read-clause-grows
 returns-in-Read-clause-grows g c = grind arith
 
 pub returns-in-Read-clause-oracle : goal.returns-in-Read-clause-oracle
-returns-in-Read-clause-oracle g c = grind (arith, asked_once, c.answer.ensures.agree, c.answer.ensures.asks, c.answer.new.oracle, c.args.oracle.now, c.load-found.result, c.self.inside.kept.first, g.O.Oracle.answers)
+returns-in-Read-clause-oracle g c = grind (arith, c.answer.ensures.agree, c.answer.ensures.asks, c.answer.new.oracle, c.args.oracle.now, c.load-found.result, c.self.inside.kept.first, g.O.Oracle.answers)
 
 pub returns-in-Write-clause-grows : goal.returns-in-Write-clause-grows
 returns-in-Write-clause-grows g c = grind arith
