@@ -33,14 +33,11 @@ break_of_program of shape h i d same within before with_it follow breaks =
       kind_is = subst (IsLawful shape) (sym more) with_it;
     }
 
-kind_at : (shape : Shape) (h : List Event) (place : ℕ) (kind : Kind) → IsFirstFault shape h place kind → IsKindAt shape h place kind
-kind_at shape h place kind fault = grind arith
-
 -- if the bits are at fault first
 pub break_of_bits :
     (shape : Shape) (h : List Event) (place : ℕ) (kind : Kind) → IsFirstFault shape h place kind → BothFollow shape (take place h) → IsFirstBreak shape h place kind
 break_of_bits shape h place kind fault follow =
-    grind (arith, slice_get_within h place fault.event fault.at_place, of_programs shape (take place h) (fault_breaks shape h place kind fault).0 follow, kind_at shape h place kind fault)
+    grind (arith, slice_get_within h place fault.event fault.at_place, of_programs shape (take place h) (fault_breaks shape h place kind fault).0 follow)
 
 -- ---- the finding
 

@@ -66,11 +66,8 @@ one_of f a b back = grind (arith, cases_eq)
 same_bit : (b c : Bit) → (b ≡ c) ⊎ (b ≢ c)
 same_bit b c = grind (arith, one_of, cases_eq)
 
-one_act : (f : Bool → Act) (v w : Bool) → (f v ≡ f w → v ≡ w) → (f v ≡ f w) ⊎ (f v ≢ f w)
-one_act f v w back = grind (arith, same_truth)
-
 same_act : (a b : Act) → (a ≡ b) ⊎ (a ≢ b)
-same_act a b = grind (arith, one_act)
+same_act a b = grind (arith, same_truth)
 
 event : Side → Bit → Act → Event
 event s b x = record { side = s; bit = b; act = x }

@@ -58,11 +58,6 @@ few_at stage shape r puts items stored made h1 = grind arith
 pub few_stored : (shape : Shape) (r : PutReading) (es : List Event) (items stored : List ℕ) → PutsStand shape r es items stored → length stored ≤ batch_of shape
 few_stored shape r es items stored st = few_at r.stage shape r st.puts items stored st.made st.made_is
 
--- the counted ones are the first ones
-pub counted_are : (shape : Shape) (puts : PutReading) (takes : TakeReading) (counted : ℕ) (put taken : List ℕ) (h : List Event) (st : ReadingStands shape (reading puts takes counted put taken) h) →
-    take counted put ≡ st.items
-counted_are shape puts takes counted put taken h st = ap (λ n. take n put) st.counted_is ∙ ap (take (length st.items)) st.put_is ∙ take_at st.items st.stored (length st.items) refl
-
 pub too_few_slots :
     (of shape : Shape) (h : List Event) (i : ℕ) (d : Event) (puts : PutReading) (takes : TakeReading) (counted put_room taken_room : ℕ) (told : Bool) →
     of ≡ shape → i < length h → IsLawful shape (take i h ++ get_or h i d ∷ []) →
@@ -72,7 +67,7 @@ pub too_few_slots :
 too_few_slots of shape h i d puts takes counted put_room taken_room told same within lawful needs found =
     let g : List Event = take i h ++ get_or h i d ∷ [] in
     let are : IsFound of g (take counted needs.put) needs.taken told = found g needs.put needs.taken (subst (λ s. IsLawful s g) (sym same) lawful) needs.stands in
-    let items_are : take counted needs.put ≡ needs.stands.items = counted_are of puts takes counted needs.put needs.taken g needs.stands in
+    let items_are : take counted needs.put ≡ needs.stands.items = grind (arith, take_at) in
     grind (arith, few_stored, length-append, take_more)
 
 -- the items of the lists are in the first slots

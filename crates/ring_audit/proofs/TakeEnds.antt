@@ -37,11 +37,6 @@ SaysTold b told = IsTrue b ↔ told
 says_not : (b : Bool) (told : Type 0) → b ≡ false → (told → ⊥) → SaysTold b told
 says_not b told e no_one = grind arith
 
--- the reply after calls that are over
-told-over : (shape : Shape) (calls : Takes) (end : End) (t : ℕ) → calls.end ≡ end → events_in (take_program shape calls) ≤ t →
-    SaysTold (tells_closed (reply_at_end end calls.takes)) (IsTold shape calls t)
-told-over shape calls end t e l = grind (arith, says_not, last-not_closed)
-
 -- ---- the take under way
 
 -- no item is brought before it has ended
@@ -87,7 +82,7 @@ taken_at shape p o es items None reply st is_due goes rests replied =
       are = subst (λ s. AreTakes s 0 st.calls.takes st.calls.end) st.shape_is st.stands.are;
       events = ([], append-nil es ∙ es_is);
       taken = st.items_are ∙ sym (taken_all shape first_count st.calls.takes (length es) reached);
-      told_is = grind (arith, told-over shape st.calls st.calls.end (length es) refl (omega (arith, long)));
+      told_is = grind (arith, says_not, last-not_closed);
     }
   where
     no_open : (z : Option Access) → ((a : Access) → z ≡ Some a → None ≡ Some a) → z ≡ None
@@ -131,11 +126,8 @@ words-long shape n (item ∷ items) =
     let word : List Made = word_read (width_of shape) (n % capacity_of shape) item in
     omega (arith, words-long shape (suc n) items, length-append word (words_read shape (suc n) items), length-reads (n % capacity_of shape) item (width_of shape), shape.has_digits)
 
-items-long : (shape : Shape) (k : Count) (front : List Made) (items : List ℕ) → length items ≤ length (front ++ items_phrase shape k items)
-items-long shape k front items = grind (arith, words-long, length-append)
-
 take-long : (shape : Shape) (k : Count) (x : Take) → length (taken_of x) ≤ length (take_phrase shape k x)
-take-long shape k x = grind (arith, items-long)
+take-long shape k x = grind (arith, words-long, length-append)
 
 takes-long : (shape : Shape) (k : Count) (xs : List Take) → length (all_taken xs) ≤ length (take_phrases shape k xs)
 takes-long shape k [] = omega arith

@@ -11,12 +11,8 @@ use Rattle.ring_core.proofs.Machines.TakeCalls.{reply-push, items-push, all_take
 abbrev pub replied : Option TakeReply → List ℕ → List ℕ
 replied reply kept = brought (step_by reply) kept
 
--- those of a take that is over are its own
-some_replied : (items : List ℕ) → replied (Some (items_reply items)) items ≡ items
-some_replied items = grind arith
-
 take_replied : (x : Take) → replied (Some (take_reply_to x)) (taken_of x) ≡ taken_of x
-take_replied x = grind (arith, some_replied)
+take_replied x = grind arith
 
 -- once an access has been made, the items are those before it and those of the reply
 pub items-after :

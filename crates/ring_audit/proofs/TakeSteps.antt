@@ -9,13 +9,6 @@ use Rattle.ring_audit.proofs.Readers.{ended}
 use Rattle.ring_audit.proofs.TakeItems.{replied, items-after}
 use Rattle.ring_audit.proofs.TakeReads.{due_takes, last_same, count_writes_bits}
 
--- the number of items that a take asks for is unchanged
-still_wants :
-    (shape : Shape) (old new : ConsumerState) (a : Access) (v : Bool) (made : List Made) → due_take old ≡ Some a → new.wanted ≡ old.wanted →
-    (old.stage ≡ Counting → is_taking new ≡ true → new.stage ≡ Counting) → WantsAll shape (record { consumer = old; open_access = Some a }) made →
-    WantsAll shape (record { consumer = new; open_access = None }) (made ++ answered a v ∷ [])
-still_wants shape old new a v made due wanted counts wants = grind (arith, due_takes, last_same, count_writes_bits)
-
 pub finish_goes_on :
     (shape : Shape) (old new : ConsumerState) (a : Access) (v : Bool) (reply : Option TakeReply) → due_take old ≡ Some a → new.shape ≡ old.shape →
     new.wanted ≡ old.wanted → (old.stage ≡ Counting → is_taking new ≡ true → new.stage ≡ Counting) →
@@ -25,7 +18,7 @@ pub finish_goes_on :
     TakesStand shape (record { consumer = new; open_access = None }) (es ++ end_event C (answered a v) ∷ []) (items ++ replied reply new.items)
 finish_goes_on shape old new a v reply due same wanted counts moves replies es items st =
     let (more, stands, after) = moves st.calls st.made a st.stands due in
-    grind (arith, due_takes, ended, items-after, still_wants)
+    grind (arith, due_takes, ended, items-after, last_same, count_writes_bits)
 
 -- the reader has read the event
 pub has_read :
