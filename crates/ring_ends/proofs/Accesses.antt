@@ -1,11 +1,7 @@
 -- What a complete access of an end leaves unchanged.
 use Rattle.std.proofs.Common.{Bool, ◌<◌, [], ◌∷◌, length, ap, arith}
-use Rattle.std.proofs.lemmas.List.{length-append}
-use Rattle.bits_core.specs.declared.events.Access.{Access}
-use Rattle.ring_seats.specs.Programs.{begin_of, ending_event}
-use Rattle.ring_seats.specs.Ring.{RingEnd}
+use Rattle.ring_ends.proofs.Common.{length-append, Access, begin_of, ending_event, RingEnd, same_end}
 use Rattle.ring_seats.specs.Steppers.{HasMade, IsSameEnd}
-use Rattle.ring_seats.proofs.CounterSteps.{same_end}
 
 -- the end is the same except for its list, which is longer
 module _ (e b : RingEnd) (a : Access) (v : Bool) (h : HasMade e b a v) where

@@ -1,24 +1,15 @@
 -- The calls of a counter ring's putter, step by step, over its ends.
 use Rattle.std.proofs.Common.{◌≡◌, ◌⊎◌, ℕ, zero, suc, ◌+◌, ◌-◌, ◌%◌, ◌<◌, ◌≤◌, false, List, [], ◌∷◌, ◌++◌, length, length-take-le, take, refl, ap, sym, subst, ◌∙◌, arith}
 use Rattle.std.proofs.Math.Nat.{mod-mod, mod-add-mod}
-use Rattle.bits_core.specs.declared.shapes.Shape.{Shape}
-use Rattle.bits_core.specs.declared.events.Side.{Side}
-use Rattle.bits_core.specs.declared.events.Side.TheVariants.{P}
-use Rattle.bits_core.specs.declared.events.Event.{Event}
-use Rattle.bits_core.specs.Shape.{capacity_of, modulus_of}
-use Rattle.bits_core.specs.Made.{Made, events_of}
+use Rattle.ring_ends.proofs.Common.{Shape, Side, P, Event, capacity_of, modulus_of, Made, events_of, RingEnd, Follows, IsSameEnd, StandsAs, HasPutAll}
 use Rattle.bits_core.proofs.Fitting.{AllFit-take}
 use Rattle.register_core.specs.ScanState.{scan_phrase, row_read_by}
 use Rattle.ring_core.specs.Counts.{distance, number_past, LeavesRoom, LeavesRoomFor}
 use Rattle.ring_core.specs.Puts.{Put, Puts, Stored, Full, number_after, words_phrase, IsPut, IsBatch}
 use Rattle.ring_core.specs.ProducerCalls.{count_of, room_in, and_put, IsPutOf}
-use Rattle.ring_seats.specs.Ring.{RingEnd}
-use Rattle.ring_seats.specs.Programs.{Follows}
-use Rattle.ring_seats.specs.Steppers.{IsSameEnd, StandsAs}
 use Rattle.ring_seats.specs.Calls.{HasPuts}
 use Rattle.ring_seats.specs.Counters.{GrowsBy, unary_over}
 use Rattle.ring_core.specs.declared.replies.BatchReply.TheVariants as several
-use Rattle.ring_ends.specs.Ends.{HasPutAll}
 use Rattle.ring_ends.specs.CounterEnds.{CountedList, PutterList, put_of, PutMade, PutKept}
 use Rattle.ring_seats.proofs.CounterPuts.{length-first, first_all, past_is, words_same, can_scan, full_is, can_store, can_count, stored_is}
 use Rattle.ring_seats.proofs.CounterSteps.{same_shape, same_end, stands_as}
@@ -37,10 +28,6 @@ pub record Fitting (shape : Shape) (count seen : ℕ) (items : List ℕ) (most :
   pub few : most ≤ length items
   pub room : most ≤ room_in shape count seen
   pub all : (most ≡ length items) ⊎ (most ≡ room_in shape count seen)
-
--- they are the first for which there is room
-fitting_are : (n room : ℕ) (items : List ℕ) → n ≤ room → (n ≡ length items) ⊎ (n ≡ room) → take n items ≡ take room items
-fitting_are n room items h1 h2 = grind (arith, first_all)
 
 number_of : (most seen n : ℕ) (items : List ℕ) → most ≤ length items → number_after n (put_of most seen items) ≡ n + most
 number_of most seen n items h1 = grind (arith, length-first, past_is)
@@ -126,7 +113,7 @@ module _ (a : RingEnd) (count cell : ℕ) (items : List ℕ) (calls : Puts) (p :
             (stored_is a.ring.shape a.list calls p.has opened seen stored is_put b.list b2.list at1 at2 next next_is)
 
         put_is_of : (b3 : RingEnd) → IsSameEnd a b3 → IsPutOf b3.ring.shape (count_of b3.ring.shape calls).number items (Stored seen stored)
-        put_is_of b3 same = grind (arith, fitting_are, same_shape)
+        put_is_of b3 same = grind (arith, first_all, same_shape)
 
         pub stored_put : (b3 : RingEnd) → GrowsBy b2 b3 (unary_over b2.side b2.list next) → PutMade a b3 calls items most
         stored_put b3 g3 =
@@ -164,8 +151,7 @@ pub kept : (a b : RingEnd) (count cell : ℕ) (items : List ℕ) (calls : Puts) 
 kept a b count cell items calls most p m next next' is is' =
     let after = and_put calls (put_of most m.seen items) in record {
       made = m;
-      at = counted_on P (λ (s : Shape) (l : List Event). HasPuts s l calls) (λ (s : Shape) (l : List Event). HasPuts s l after) (λ (s : Shape). (count_of s calls).number) (λ (s : Shape). (count_of s after).number)
-          a b count cell most p m.same m.stands m.has m.number next next' is is';
+      at = search (arith, counted_on);
     }
 
 -- the same, for a put that found the ring full

@@ -1,18 +1,10 @@
 -- The ends of a counter ring that have made no call, and those between calls.
 use Rattle.std.proofs.Common.{arith, ◌≡◌, ℕ, Bool, false, List, [], refl, ap, ◌∙◌}
-use Rattle.bits_core.specs.declared.events.Side.{Side}
-use Rattle.bits_core.specs.declared.events.Side.TheVariants.{P, C}
-use Rattle.bits_core.specs.declared.events.Event.{Event}
-use Rattle.bits_core.specs.declared.shapes.Shape.{Shape}
-use Rattle.bits_core.specs.History.{open_access}
-use Rattle.bits_core.proofs.LawLemmas.{made_leave_none_open}
+use Rattle.ring_ends.proofs.Common.{Side, P, C, Event, Shape, open_access, made_leave_none_open, take_program, RingEnd, StandsAs}
 use Rattle.ring_core.specs.Puts.{put_program}
-use Rattle.ring_core.specs.Takes.{take_program}
 use Rattle.ring_seats.specs.Rule.{IsIdle}
 use Rattle.ring_core.specs.ProducerCalls.{no_puts}
 use Rattle.ring_core.specs.ConsumerCalls.{no_takes}
-use Rattle.ring_seats.specs.Ring.{RingEnd}
-use Rattle.ring_seats.specs.Steppers.{StandsAs}
 use Rattle.ring_ends.specs.Ends.{HasPuts, HasTakes}
 use Rattle.ring_ends.specs.CounterEnds.{CountedList, IsPutterList, IsTakerList}
 

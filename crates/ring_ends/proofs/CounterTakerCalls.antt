@@ -2,25 +2,17 @@
 use Rattle.std.proofs.Common.{rules, ◌≡◌, ◌⊎◌, ℕ, ◌+◌, ◌%◌, ◌<◌, ◌≤◌, Bool, true, false, Some, List, [], ◌∷◌, ◌++◌, length, refl, ap, sym, subst, ◌∙◌, arith, append_assoc, append-nil}
 use Rattle.std.proofs.Math.Nat.{mod-add-mod, mod-eq_of_lt, mod-mod}
 use Rattle.std.proofs.lemmas.Nat.{mod_below}
-use Rattle.bits_core.specs.declared.shapes.Shape.{Shape}
-use Rattle.bits_core.specs.declared.events.Side.{Side}
-use Rattle.bits_core.specs.declared.events.Side.TheVariants.{C}
+use Rattle.ring_ends.proofs.Common.{Shape, Side, C, Event, Made, Read, events_of, TakeReply, RingEnd, Follows, IsSameEnd, StandsAs}
 use Rattle.bits_core.specs.declared.events.Bit.TheVariants.{X}
-use Rattle.bits_core.specs.declared.events.Event.{Event}
 use Rattle.bits_core.specs.Shape.{AllFit, capacity_of, modulus_of, width_of}
-use Rattle.bits_core.specs.Made.{Made, Read, events_of}
 use Rattle.register_core.specs.Word.{word_read}
 use Rattle.register_core.specs.ScanState.{scan_phrase, row_read_by}
-use Rattle.ring_core.specs.declared.replies.TakeReply.{TakeReply}
 use Rattle.ring_core.specs.declared.replies.TakeReply.TheVariants as reply
 use Rattle.ring_core.specs.Counts.{distance, ShowsItem, number_past}
 use Rattle.ring_core.specs.Takes.{Take, Takes, Empty, Open, taken_after, words_read, SeesItems, SeesNone, IsTakeBatch, IsTake}
 use Rattle.ring_core.specs.Items.{taken_of}
 use Rattle.ring_core.specs.ConsumerCalls.{Finding, Once, Twice, Finds, finding_phrase, count_taken, and_take, and_end, items_reply, take_reply_to, IsTakeOf, TakesAll}
 use Rattle.ring_ends.specs.declared.counter_calls.Scanned.TheVariants.{Shows, Over}
-use Rattle.ring_seats.specs.Ring.{RingEnd}
-use Rattle.ring_seats.specs.Programs.{Follows}
-use Rattle.ring_seats.specs.Steppers.{IsSameEnd, StandsAs}
 use Rattle.ring_seats.specs.Calls.{HasTakes, closed_reply}
 use Rattle.ring_seats.specs.Counters.{GrowsBy, unary_over}
 use Rattle.ring_ends.specs.CounterEnds.{TakerList, TakeMade, TakeKept, HasFound, LookMade, HasLooked}
@@ -235,8 +227,7 @@ pub kept_take :
     TakeKept a b next next' calls wanted r items
 kept_take a b count cell calls wanted r items p m next next' is is' = record {
   made = m;
-  at = counted_on C (λ (s : Shape) (l : List Event). HasTakes s l calls) (λ (s : Shape) (l : List Event). HasTakes s l m.more) (λ (s : Shape). (count_taken s calls).number) (λ (s : Shape). (count_taken s m.more).number)
-      a b count cell (length items) p m.same m.stands m.has m.number next next' is is';
+  at = search (arith, counted_on);
 }
 
 -- the same, for a take that brought nothing

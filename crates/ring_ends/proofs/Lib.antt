@@ -1,3 +1,4 @@
+pub mod Common
 pub mod Accesses
 pub mod CounterStarts
 pub mod Idle

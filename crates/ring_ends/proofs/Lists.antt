@@ -1,19 +1,10 @@
 -- Lists of accesses that were made, and their events.
 use Rattle.std.proofs.Common.{◌≡◌, ℕ, suc, Bool, false, Some, List, [], ◌∷◌, ◌++◌, length, ap, sym, ◌∙◌, arith, append_assoc, append-nil}
-use Rattle.std.proofs.lemmas.List.{length-append}
-use Rattle.bits_core.specs.declared.events.Side.{Side}
-use Rattle.bits_core.specs.declared.events.Side.TheVariants.{P, C}
-use Rattle.bits_core.specs.declared.events.Access.{Access}
-use Rattle.bits_core.specs.declared.events.Event.{Event}
-use Rattle.bits_core.specs.declared.shapes.Shape.{Shape}
-use Rattle.bits_core.specs.Shape.{modulus_of}
+use Rattle.ring_ends.proofs.Common.{length-append, Side, P, C, Access, Event, Shape, modulus_of, open_access, EndsInZeros, Follows, begin_of, ending_event}
 use Rattle.bits_core.specs.Bits.{other, begun_by}
-use Rattle.bits_core.specs.History.{open_access}
 use Rattle.bits_core.specs.Lawful.{IsLawful}
 use Rattle.bits_core.specs.Made.{Made, Read, answered, begin_event, events_of, subhistory, IsPrefix}
 use Rattle.register_core.specs.ScanState.{zero_reads, row_read_by}
-use Rattle.ring_core.specs.Calls.{EndsInZeros}
-use Rattle.ring_seats.specs.Programs.{Follows, begin_of, ending_event}
 use Rattle.bits_core.proofs.LawLemmas.{open_changes}
 use Rattle.ring_core.proofs.LawLemmas.{last_bit_is_one_puts, last_bit_is_one_takes}
 use Rattle.ring_seats.proofs.Blocks.{by_begin}
@@ -25,12 +16,9 @@ pub use Rattle.ring_seats.proofs.Moves.{ring_follows}
 pub events_begin : (s : Side) (xs ys : List Made) → IsPrefix xs ys → IsPrefix (events_of s xs) (events_of s ys)
 events_begin s xs ys b = (events_of s b.0, sym (events_of-append s xs b.0) ∙ ap (events_of s) b.1)
 
-pub begin_same : (s : Side) (a : Access) (v : Bool) → begin_event s (answered a v) ≡ begin_of s a
-begin_same s a v = grind arith
-
 -- the events of one more access
 pub events_more : (s : Side) (made : List Made) (a : Access) (v : Bool) → events_of s (made ++ answered a v ∷ []) ≡ (events_of s made ++ begin_of s a ∷ []) ++ ending_event s a v ∷ []
-events_more s made a v = grind (arith, append_assoc, begin_same, events_of-append)
+events_more s made a v = grind (arith, append_assoc, events_of-append)
 
 -- a prefix of a prefix
 pub shorter : (xs : List Event) (e : Event) (ys : List Event) → IsPrefix (xs ++ e ∷ []) ys → IsPrefix xs ys
@@ -66,9 +54,5 @@ pub no_zero : (shape : Shape) (x : Side) (h : List Event) → IsLawful shape h �
 no_zero shape x h lawful f made i size zeros is =
     let before : List Made = zeros.0 in
     let last : ℕ = zeros.1 in
-    let same : i ≡ last = omega (arith, size, zeros.2) in
-    let whole : made ++ Read (row_read_by x i) false ∷ [] ≡ before ++ zero_reads (row_read_by x) (modulus_of shape) =
-    (λ j. zeros.3 j ++ Read (row_read_by x (same j)) false ∷ []) ∙
-    append_assoc before (zero_reads (row_read_by x) last) (Read (row_read_by x last) false ∷ []) ∙
-    ap (λ n. before ++ zero_reads (row_read_by x) n) zeros.2 in
+    let whole : made ++ Read (row_read_by x i) false ∷ [] ≡ before ++ zero_reads (row_read_by x) (modulus_of shape) = grind (arith, append_assoc) in
     misses shape x h lawful f before (is ∙ ap (events_of x) whole)

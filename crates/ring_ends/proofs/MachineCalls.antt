@@ -1,26 +1,11 @@
 -- A step call of an end, by its machine, whichever side it is of.
 use Rattle.std.proofs.Common.{◌≡◌, ◌⊎◌, ⊎_elim, ℕ, ◌+◌, ◌-◌, ◌*◌, ◌≤◌, Bool, List, [], ◌∷◌, ◌++◌, length, ap, sym, subst, ◌∙◌, arith}
 use Rattle.std.proofs.lemmas.List.{length-append, length-take-le, take-append-le, take_all}
-use Rattle.bits_core.specs.declared.events.Event.{Event}
-use Rattle.bits_core.specs.declared.shapes.Shape.{Shape}
-use Rattle.bits_core.specs.Made.{Made, events_of}
-use Rattle.ring_seats.specs.Ring.{Ring, RingEnd}
-use Rattle.ring_seats.specs.Steppers.{Grows, IsSameEnd, StandsAs}
+use Rattle.ring_ends.proofs.Common.{Event, Shape, Made, events_of, Ring, RingEnd, Grows, IsSameEnd, StandsAs, MachineLaws}
 use Rattle.ring_ends.specs.Machines.{IsMarked, Machine, MachineAt, MachineStep, MachineStepped, IsMachine, CallBegins, without_last}
-use Rattle.ring_ends.specs.Moves.{MachineLaws}
 use Rattle.ring_ends.proofs.Lists.{length-events_of}
 
 -- ---- at rest
-
--- the list without its last events, and its number of events
-before_more : (n : ℕ) (list : List Event) (x : Event) → n ≤ length list → without_last (n + 1) (list ++ x ∷ []) ≡ without_last n list
-before_more n list x few = grind (arith, length-append, take-append-le)
-
-before_none : (n : ℕ) (list : List Event) → n ≡ 0 → list ≡ without_last n list
-before_none n list none = sym (take_all (length list - n) list (omega (arith, none)))
-
-before_size : (n : ℕ) (list : List Event) → n ≤ length list → length (without_last n list) + n ≡ length list
-before_size n list few = omega (arith, length-take-le (length list - n) list (omega arith), few)
 
 module _ (k : Machine) (ks : MachineLaws k) where
   -- the list of an end at rest is that of its calls
@@ -28,7 +13,7 @@ module _ (k : Machine) (ks : MachineLaws k) where
   rest_list e m calls made at none = grind arith
 
   whole_marked : (m : k.State) (n : ℕ) (list : List Event) → IsMarked n list (k.most m) → without_last n list ≡ k.whole m list (without_last n list)
-  whole_marked m n list marked = grind (arith, before_none)
+  whole_marked m n list marked = grind (arith, take_all)
 
   -- if no call is under way no event is marked, whatever the list
   pub rest_marked : (l l' : List Event) (m m' : k.State) (n : ℕ) → k.Rests m → IsMarked n l (k.most m) → IsMarked n l' (k.most m')
@@ -205,7 +190,7 @@ module _ (k : Machine) (ks : MachineLaws k) {c : k.Call} (s : Step k c) where
     at_rest none = grind arith
 
     moves : Outcome k b.e s.e s.m b.was.0.calls c → Moves
-    moves h1 = grind (arith, at_rest, before_more, before_size, few_more, length-append)
+    moves h1 = grind (arith, at_rest, length-append, take-append-le, length-take-le, few_more)
 
     pub step_invariant : IsMachine k s.e s.m (k.whole s.m s.e.list (without_last n' s.e.list)) × IsMarked n' s.e.list (k.most s.m)
     step_invariant = let moved = moves came in (subst (IsMachine k s.e s.m) moved.0 step_machine, moved.1)

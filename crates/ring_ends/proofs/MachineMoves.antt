@@ -1,25 +1,15 @@
 -- A step of an end by its machine, whichever side it is of.
 use Rattle.std.proofs.Common.{◌≡◌, inl, inr, ◌+◌, ◌*◌, ◌<◌, Bool, true, Option, Some, None, List, [], ◌∷◌, ◌++◌, length, refl, ap, sym, subst, ◌∙◌, arith}
-use Rattle.std.proofs.lemmas.List.{length-append}
-use Rattle.bits_core.specs.declared.events.Side.{Side}
-use Rattle.bits_core.specs.declared.events.Access.{Access}
-use Rattle.bits_core.specs.declared.events.Event.{Event}
-use Rattle.bits_core.specs.declared.shapes.Shape.{Shape}
-use Rattle.bits_core.specs.Bits.{other}
-use Rattle.bits_core.specs.History.{open_access}
+use Rattle.ring_ends.proofs.Common.{length-append, Side, Access, Event, Shape, other, open_access, IsOpenRight, LastBitIsDue, EndsInZeros, Ring, RingEnd, made_leave_none_open}
 use Rattle.bits_core.specs.Lawful.{IsLawful}
-use Rattle.bits_core.specs.Open.{IsOpenRight}
 use Rattle.bits_core.specs.Made.{Made, answered, events_of, subhistory, IsPrefix}
-use Rattle.ring_core.specs.Calls.{LastBitIsDue, EndsInZeros}
-use Rattle.ring_seats.specs.Ring.{Ring, RingEnd}
 use Rattle.ring_seats.specs.Programs.{Follows, GoesOn, begin_of, ending_event}
 use Rattle.ring_seats.specs.Steppers.{Grows, IsSameEnd, StandsAs, CanMake, CanStep, HasStepped}
 use Rattle.ring_ends.specs.Machines.{ListIs, Machine, MachineAt, MachineStep}
 use Rattle.ring_ends.specs.Moves.{Due, Fed, MachineLaws, Next, TellsNext}
 use Rattle.ring_seats.proofs.Histories.{own-mine, own-theirs}
 use Rattle.ring_ends.proofs.Lists.{ring_follows, events_begin, events_more, begun_open, shorter, no_zero, length-events_of}
-use Rattle.ring_ends.proofs.Steps.{by_end, not_by_end, list_closed, list_open, CanMakeAt, CanStepAt, last_false}
-use Rattle.bits_core.proofs.LawLemmas.{made_leave_none_open}
+use Rattle.ring_ends.proofs.Steps.{by_end, not_by_end, list_closed, CanMakeAt, CanStepAt, none-some}
 
 -- the due access is one that the end may make
 pub right_there : (k : Machine) (e : RingEnd) (m : k.State) (calls : k.Calls) (made : List Made) → MachineAt k e m calls made → (a : Access) → Due k m a → IsOpenRight e.ring.shape e.side a
@@ -45,7 +35,7 @@ module _ (k : Machine) (ks : MachineLaws k) (m : k.State) (calls : k.Calls) (mad
   module _ (zeros : LastBitIsDue (k.shape_of m) k.side (Some a) → EndsInZeros (k.shape_of m) k.side made) where
     -- the last bit is never read as 0
     answers_one : (h : List Event) → IsLawful (k.shape_of m) h → Follows (k.shape_of m) (other k.side) (subhistory (other k.side) h) → (v : Bool) → subhistory k.side h ≡ events_of k.side (made ++ answered a v ∷ []) → LastBitIsDue (k.shape_of m) k.side (Some a) → v ≡ true
-    answers_one h h1 h2 v h3 h4 = grind (arith, last_false, no_zero)
+    answers_one h h1 h2 v h3 h4 = grind (arith, no_zero)
 
     goes_on : (list : List Event) → list ≡ events_of k.side made ++ begin_of k.side a ∷ [] → GoesOn (k.shape_of m) k.side a list
     goes_on list is h v lawful ring mine =
@@ -115,7 +105,7 @@ module _ (k : Machine) (ks : MachineLaws k) (e : RingEnd) (m : k.State) (calls :
 
     module _ (v : Bool) (s : HasStepped e b a (Some v)) where
       pub list_ended : b.list ≡ events_of k.side (made ++ answered a v ∷ [])
-      list_ended = grind (arith, events_more, list_due, list_open)
+      list_ended = grind (arith, events_more, list_due, made_leave_none_open, none-some)
 
       -- the answer may be fed
       one_due : LastBitIsDue (k.shape_of m) k.side (Some a) → v ≡ true

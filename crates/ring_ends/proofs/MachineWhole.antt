@@ -1,13 +1,6 @@
 -- A complete call of an end, access by access, by its machine, whichever side it is of.
 use Rattle.std.proofs.Common.{rules, append-nil, add-zero, ◌≡◌, inl, inr, ⊎_elim, ◌+◌, ◌*◌, ◌<◌, Bool, Some, None, List, [], ◌∷◌, ◌++◌, length, refl, ap, sym, subst, ◌∙◌, arith, ℕ}
-use Rattle.bits_core.specs.declared.events.Side.{Side}
-use Rattle.bits_core.specs.declared.events.Access.{Access}
-use Rattle.bits_core.specs.declared.events.Event.{Event}
-use Rattle.bits_core.specs.declared.shapes.Shape.{Shape}
-use Rattle.bits_core.specs.History.{open_access}
-use Rattle.bits_core.specs.Made.{Made, answered, events_of}
-use Rattle.bits_core.specs.Open.{IsOpenRight}
-use Rattle.ring_seats.specs.Ring.{Ring, RingEnd}
+use Rattle.ring_ends.proofs.Common.{Side, Access, Event, Shape, open_access, Made, answered, events_of, IsOpenRight, Ring, RingEnd, made_leave_none_open}
 use Rattle.ring_seats.specs.Steppers.{AreAnswered, answers_in, CanMake, HasMade, HasStepped, IsSameEnd, StandsAs}
 use Rattle.ring_ends.specs.Machines.{Machine, MachineAt, MachineReady, MachineGoes, MachineOver, MachineIn, MachineBusy, MachineWent, MachineEnded, IsMachine, IsMarked, without_last}
 use Rattle.ring_ends.specs.Moves.{Due, Fed, MachineLaws, MayFeed}
@@ -18,7 +11,6 @@ use Rattle.ring_ends.proofs.MachineCalls.{Begun, rest_list, rest_marked, at_one}
 use Rattle.ring_ends.proofs.Steps.{none-some}
 use Rattle.ring_seats.proofs.Answered.{answered_then}
 use Rattle.ring_seats.proofs.CounterSteps.{same_end as same_on}
-use Rattle.bits_core.proofs.LawLemmas.{made_leave_none_open}
 
 -- ---- one access of a call that continues, by what a machine reports about the due one
 
@@ -81,10 +73,6 @@ went_then k w v = record {
 -- some accesses of a part of the call, its scan or its word: the words are the end's, and the part is of the machine
 abbrev pub PartWent : (k : Machine) (ring : Ring) (a : RingEnd) (m : k.State) (b : RingEnd) (m' : k.State) (old now : ℕ → Bool) (IsOf : Type 0) → Type 0
 PartWent k ring a m b m' old now IsOf = (ring ≡ b.ring) × MachineWent k a m b m' old now × IsOf
-
-pub part_begins :
-    (k : Machine) (ring : Ring) (e : RingEnd) (m m' : k.State) (said : ℕ → Bool) (IsOf : Type 0) → ring ≡ e.ring → (m' ≡ m) × IsOf → PartWent k ring e m e m' said said IsOf
-part_begins k ring e m m' said IsOf is of = (is, went_same k e m said of.0, of.1)
 
 module _ (k : Machine) (ks : MachineLaws k) {e0 : RingEnd} {m0 : k.State} {e : RingEnd} {m : k.State} {old now : ℕ → Bool} (w : MachineWent k e0 m0 e m old now) where
   -- a call that is under way after them was under way before

@@ -1,19 +1,14 @@
 -- What came through a ring whose two ends are done.
 use Rattle.std.proofs.Common.{◌≡◌, ℕ, ◌≤◌, Bool, true, List, length, ap, sym, subst, ◌∙◌, arith, append-nil}
-use Rattle.bits_core.specs.declared.shapes.Shape.{Shape}
-use Rattle.bits_core.specs.declared.events.Side.TheVariants.{P, C}
-use Rattle.bits_core.specs.declared.events.Event.{Event}
+use Rattle.ring_ends.proofs.Common.{Shape, P, C, Event, Takes, take_program, ends_closed, Ring, RingEnd}
 use Rattle.bits_core.specs.Made.{clock, IsPrefix}
 use Rattle.ring_core.specs.Counts.{first_count}
-use Rattle.ring_core.specs.Takes.{Takes, take_program}
 use Rattle.ring_core.specs.Items.{items_put, items_taken, events_in, IsTold}
-use Rattle.ring_core.specs.ConsumerCalls.{ends_closed}
 use Rattle.ring_core.specs.RingLaw.{IsRun}
 use Rattle.ring_core.proofs.LawLemmas.{ring_law_closed, ring_law_prefix, takes_are_read, whole_calls_count_puts, whole_calls_count_takes}
 use Rattle.ring_core.proofs.Machines.Following.{length-events}
 use Rattle.ring_core.proofs.Machines.TakeCalls.{closed_tells as tells_true}
 use Rattle.ring_core.proofs.OwnEvents.{clock_end as clock_at_end}
-use Rattle.ring_seats.specs.Ring.{Ring, RingEnd}
 use Rattle.ring_seats.specs.Calls.{HasTakes}
 use Rattle.ring_ends.specs.Meetings.{Meets, TellsAre}
 use Rattle.ring_ends.specs.Stored.{HasStored, HasTook, TakesAreAll, TakesArePrefix}
@@ -43,10 +38,6 @@ module _ (p c : RingEnd) (same : p.ring ≡ c.ring) (h : List Event) (meets : Me
   pub takes_are_all : (told : Bool) → TellsAre c.ring.shape c.list told → TakesAreAll p c told
   takes_are_all told tells put taken ps ts is =
       let one : ts.calls ≡ tells.calls = takes_are_read c.ring.shape ts.calls tells.calls ts.list_is.are tells.list_is.are (sym ts.list_is.list_is ∙ tells.list_is.list_is) in
-      let over : ends_closed ts.calls.end ≡ true = ap (λ (t : Takes). ends_closed t.end) one ∙ sym tells.told_is ∙ is in
-      let told : IsTold shape ts.calls (clock C h (length h)) = (
-        tells_true ts.calls.end over,
-        subst (λ (n : ℕ). events_in (take_program shape ts.calls) ≤ n) (sym (clock_at_end C h ∙ ap length (meets.taken ∙ (takes_here put taken ps ts).list_is) ∙ length-events C (take_program shape ts.calls))) (omega arith),
-      ) in
+      let told : IsTold shape ts.calls (clock C h (length h)) = grind (arith, tells_true, clock_at_end, length-events) in
       let all = ring_law_closed shape h ps.calls ts.calls (run put taken ps ts) (length h) (length h) told (omega arith) in
       sym (taken_is put taken ps ts) ∙ all.1 ∙ sym all.0 ∙ put_is put taken ps ts

@@ -1,13 +1,7 @@
 -- The producer's machine, and a step call of its end.
 use Rattle.std.proofs.Common.{rules, ◌≡◌, cond, ◌≢◌, ◌⊎◌, inl, inr, ⊎_elim, ℕ, ◌+◌, ◌<◌, ◌≤◌, Bool, true, false, true≢false, Option, Some, None, List, [], ◌∷◌, length, refl, ap, sym, subst, ◌∙◌, arith}
 use Rattle.std.specs.Prelude.{IfSome, IfNone, is_some, not}
-use Rattle.bits_core.specs.declared.events.Side.TheVariants.{P}
-use Rattle.bits_core.specs.declared.events.Access.{Access}
-use Rattle.bits_core.specs.declared.events.Event.{Event}
-use Rattle.bits_core.specs.declared.shapes.Shape.{Shape}
-use Rattle.bits_core.specs.Made.{Made, events_of}
-use Rattle.bits_core.specs.Open.{IsOpenRight}
-use Rattle.ring_core.specs.Calls.{LastBitIsDue, EndsInZeros}
+use Rattle.ring_ends.proofs.Common.{P, Access, Event, Shape, Made, events_of, IsOpenRight, LastBitIsDue, EndsInZeros, RingEnd, Grows, Due, MachineLaws}
 use Rattle.ring_core.specs.declared.producers.Stage.{Stage}
 use Rattle.ring_core.specs.declared.producers.Stage.TheVariants.{Idle, Scanning, Storing, Counting, Closing}
 use Rattle.ring_core.specs.declared.replies.PutReply as items_replies
@@ -19,11 +13,8 @@ use Rattle.ring_core.specs.ProducerState as producer
 use Rattle.ring_core.specs.ProducerState.{ProducerState, Call, Close, due_put, call_of, call_at, producer_due_at}
 use Rattle.ring_core.specs.ProducerCalls.{ProducerStands, PutGoesOn, longest_of, ProducerMadeAt, HasCallMore, IsAfterCall, IsReplyToCall, longest, put_reply_to}
 use Rattle.ring_core.proofs.Machines.PutCalls.{reply-push as last-snoc}
-use Rattle.ring_seats.specs.Ring.{RingEnd}
-use Rattle.ring_seats.specs.Steppers.{Grows}
 use Rattle.ring_ends.specs.Ends.{HasPuts, HasPut, HasPutAll, HasPutPart, HasClosed, PutAdds, CloseAdds, PutterState, whole_put, puts_whole}
 use Rattle.ring_ends.specs.Machines.{IsMarked, IsMachine, CallBegins, MachineStepped, producing, without_last, longest_at}
-use Rattle.ring_ends.specs.Moves.{Due, MachineLaws}
 use Rattle.ring_ends.proofs.MachineCalls.{Begun, begun_seen, Step, step_of, Outcome, Refused, Goes, Over, one_step, out, shape_there, stays, whole_there}
 use Rattle.ring_ends.proofs.Steps.{none-some}
 

@@ -1,16 +1,13 @@
 -- A complete call of the producer's end, access by access.
 use Rattle.std.proofs.Common.{arith, IsSome, ◌≡◌, cond, ℕ, Bool, true, false, Option, Some, None, List, refl, ap, sym, subst, ◌∙◌}
-use Rattle.bits_core.specs.declared.shapes.Shape.{Shape}
+use Rattle.ring_ends.proofs.Common.{Shape, Puts, ArePuts, RingEnd, producing}
 use Rattle.ring_core.specs.declared.replies.PutReply as items_replies
 use Rattle.ring_core.specs.declared.replies.BatchReply as replies
 use Rattle.ring_core.specs.declared.replies.BatchReply.TheVariants as reply
-use Rattle.ring_core.specs.Puts.{Puts, ArePuts}
 use Rattle.ring_core.specs.ProducerState as producer
 use Rattle.ring_core.specs.ProducerState.{ProducerState, Call, Close, call_of}
 use Rattle.ring_core.specs.ProducerCalls.{HasCallMore, IsReplyToCall, put_reply_to}
-use Rattle.ring_seats.specs.Ring.{RingEnd}
 use Rattle.ring_ends.specs.Ends.{HasPuts, HasPutAll, HasClosed, PutAdds, CloseAdds}
-use Rattle.ring_ends.specs.Machines.{producing}
 use Rattle.ring_ends.proofs.MachineWhole.{Ended, More, Refused, Whole, ending, list_there, more_there, over_list, shape_whole}
 use Rattle.ring_ends.proofs.PutterCalls.{over_adds, over_closes, over_reply, put_laws}
 

@@ -1,18 +1,11 @@
 -- The list of an end together with the accesses of its machine.
 use Rattle.std.proofs.Common.{arith, ◌≡◌, ◌⊎◌, ℕ, Bool, true, false, Option, Some, None, List, [], ◌∷◌, ◌++◌, ap}
-use Rattle.bits_core.specs.declared.events.Side.{Side}
-use Rattle.bits_core.specs.declared.events.Access.{Access}
+use Rattle.ring_ends.proofs.Common.{Side, Access, Event, Shape, open_access, Made, Read, answered, events_of, row_read_by, made_leave_none_open}
 use Rattle.bits_core.specs.declared.events.Access.TheVariants as access
-use Rattle.bits_core.specs.declared.events.Event.{Event}
-use Rattle.bits_core.specs.declared.shapes.Shape.{Shape}
 use Rattle.bits_core.specs.Bits.{other, is_by}
-use Rattle.bits_core.specs.History.{open_access}
-use Rattle.bits_core.specs.Made.{Made, Read, answered, events_of}
-use Rattle.register_core.specs.ScanState.{row_read_by}
 use Rattle.ring_seats.specs.Programs.{Follows, GoesOn, begin_of, ending_event}
 use Rattle.ring_ends.specs.Machines.{ListIs}
 use Rattle.ring_ends.proofs.Lists.{begun_open}
-use Rattle.bits_core.proofs.LawLemmas.{made_leave_none_open}
 
 -- the access can start, or it is open and can end
 abbrev pub CanStepAt : Shape → Side → List Event → Access → Type 0
@@ -30,15 +23,8 @@ by_end x a v = grind arith
 pub not_by_end : (x : Side) (a : Access) (v : Bool) → is_by (other x) (ending_event x a v) ≡ false
 not_by_end x a v = grind arith
 
--- a read of the last bit that returns 0
-pub last_false : (x : Side) (a : Access) (i : ℕ) → Some a ≡ Some (access.Read (row_read_by x i)) → answered a false ≡ Read (row_read_by x i) false
-last_false x a i e = let same : a ≡ access.Read (row_read_by x i) = cc in ap (λ (b : Access). answered b false) same
-
 pub none-some : {A : Type 0} (a : A) → None ≡ Some a → ⊥
 none-some a e = cc
 
 pub list_closed : (x : Side) (list : List Event) (made : List Made) (due : Option Access) → ListIs x list made due → open_access x list ≡ None → list ≡ events_of x made
 list_closed x list made due h1 h2 = grind (arith, begun_open, none-some)
-
-pub list_open : (x : Side) (list : List Event) (made : List Made) (a : Access) → ListIs x list made (Some a) → open_access x list ≡ Some a → list ≡ events_of x made ++ begin_of x a ∷ []
-list_open x list made a h1 h2 = grind (arith, made_leave_none_open, none-some)

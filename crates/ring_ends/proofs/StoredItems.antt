@@ -1,25 +1,20 @@
 -- What complete calls of a ring's ends store and take, one call after the other.
 use Rattle.std.proofs.Common.{◌≡◌, ℕ, zero, suc, ◌≤◌, Bool, true, false, Some, List, [], ◌∷◌, ◌++◌, length, take, refl, ap, sym, subst, arith, append-nil, append_assoc}
 use Rattle.std.proofs.lemmas.Option.{same_Some}
-use Rattle.bits_core.specs.declared.shapes.Shape.{Shape}
-use Rattle.bits_core.specs.declared.events.Event.{Event}
+use Rattle.ring_ends.proofs.Common.{Shape, Event, TakeReply, Takes, RingEnd, IsSameEnd}
 use Rattle.ring_core.specs.declared.replies.BatchReply.{BatchReply}
 use Rattle.ring_core.specs.declared.replies.BatchReply.TheVariants as several
 use Rattle.ring_core.specs.declared.replies.PutReply.{PutReply}
 use Rattle.ring_core.specs.declared.replies.PutReply.TheVariants as single
-use Rattle.ring_core.specs.declared.replies.TakeReply.{TakeReply}
 use Rattle.ring_core.specs.declared.replies.TakeBatchReply.{TakeBatchReply}
 use Rattle.ring_core.specs.Puts as puts
 use Rattle.ring_core.specs.Puts.{Put, Puts, IsPut, ArePuts, room_in}
-use Rattle.ring_core.specs.Takes.{Takes}
 use Rattle.ring_core.specs.Items.{all_put, all_taken}
 use Rattle.ring_core.specs.ProducerCalls.{no_puts, and_close, and_put}
 use Rattle.ring_core.specs.ProducerState.{item_reply}
 use Rattle.ring_core.specs.ConsumerCalls.{no_takes, ends_closed, items_at_end, reply_items, HasTakeMore}
 use Rattle.ring_core.proofs.LawLemmas.{programs_by_one_call_one, puts_are_read, takes_are_read}
 use Rattle.ring_core.proofs.Machines.TakeCalls.{all_taken-push as all_taken_snoc, items-push as items_snoc, reply-push as last_reply}
-use Rattle.ring_seats.specs.Ring.{RingEnd}
-use Rattle.ring_seats.specs.Steppers.{IsSameEnd}
 use Rattle.ring_seats.specs.Calls.{HasPuts, HasTakes, IsTakeReply}
 use Rattle.ring_ends.specs.Ends.{CloseAdds, HasClosed, HasPut, HasPutAll, PutAdds, HasTaken, TakeAdds, HasTakenAll, TakeAllAdds, number_brought}
 use Rattle.ring_ends.specs.Stored.{HasStored, HasTook, StoresMore, TakesMore, item_stored, number_stored}
@@ -40,13 +35,9 @@ last_is : (shape : Shape) (n : ℕ) (xs : List Put) (x : Put) → ArePuts shape 
 last_is shape n [] x are = (n, are.0)
 last_is shape n (y ∷ xs) x are = last_is shape (puts.number_after n y) xs x are.1
 
-few_by_one : (shape : Shape) (before after : List Event) (calls : Puts) (closes : Bool) (given : List ℕ) (m : ℕ) →
-    PutAdds closes shape calls given (several.Stored m) before after → (1 ≤ m) × (m ≤ length given)
-few_by_one shape before after calls closes given m h1 = grind (arith, first, last_is)
-
 -- a put of these items that stored m of them stored at least one, and no more than there are
 pub few_stored : (shape : Shape) (given : List ℕ) (before after : List Event) (m : ℕ) → HasPutAll shape given before after (several.Stored m) → (1 ≤ m) × (m ≤ length given)
-few_stored shape given before after m h = few_by_one shape before after h.calls h.calls.closes given m h.adds
+few_stored shape given before after m h = grind (arith, first, last_is)
 
 pub few_all : (shape : Shape) (given : List ℕ) (before after : List Event) (reply : BatchReply) → HasPutAll shape given before after reply → number_stored reply ≤ length given
 few_all shape given before after (several.Stored m) h = (few_stored shape given before after m h).1

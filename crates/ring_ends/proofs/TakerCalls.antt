@@ -1,27 +1,17 @@
 -- The consumer's machine, and a step call of its end.
 use Rattle.std.proofs.Common.{◌≡◌, ◌⊎◌, inl, inr, ⊎_elim, ℕ, ◌+◌, ◌<◌, ◌≤◌, Bool, true, false, Option, Some, None, List, [], ◌∷◌, ◌++◌, length, refl, ap, sym, subst, ◌∙◌, arith}
-use Rattle.std.specs.Prelude.{IfSome, IfNone}
-use Rattle.bits_core.specs.declared.events.Side.TheVariants.{C}
-use Rattle.bits_core.specs.declared.events.Access.{Access}
-use Rattle.bits_core.specs.declared.events.Event.{Event}
-use Rattle.bits_core.specs.declared.shapes.Shape.{Shape}
+use Rattle.ring_ends.proofs.Common.{IfSome, IfNone, C, Access, Event, Shape, Made, answered, events_of, IsOpenRight, LastBitIsDue, EndsInZeros, Takes, take_program, AreTakes, RingEnd, Grows, Due}
+use Rattle.ring_ends.proofs.Common.{Fed, MachineLaws}
 use Rattle.bits_core.specs.Shape.{take_batch_of}
-use Rattle.bits_core.specs.Made.{Made, answered, events_of}
-use Rattle.bits_core.specs.Open.{IsOpenRight}
-use Rattle.ring_core.specs.Calls.{LastBitIsDue, EndsInZeros}
 use Rattle.ring_core.specs.declared.consumers.Stage.{Stage}
 use Rattle.ring_core.specs.declared.replies.TakeReply as replies
 use Rattle.ring_core.specs.declared.replies.TakeReply.TheVariants as reply
 use Rattle.ring_core.specs.Lengths.{longest_taking}
-use Rattle.ring_core.specs.Takes.{Takes, take_program, AreTakes}
 use Rattle.ring_core.specs.ConsumerState.{due_take, ConsumerState, is_taking, takes_at, consumer_due_at}
 use Rattle.ring_core.specs.ConsumerCalls.{ConsumerHasMoved, ConsumerStands, ConsumerMadeAt, TakeGoesOn, HasTakeMore, reply_at_end, take_reply_to, ends_closed}
 use Rattle.ring_core.proofs.Machines.TakeCalls.{reply-push as last-snoc}
-use Rattle.ring_seats.specs.Ring.{RingEnd}
-use Rattle.ring_seats.specs.Steppers.{Grows}
 use Rattle.ring_ends.specs.Ends.{HasTakes, HasTakenOf, HasTakePart, TakeAdds, TakerState, wants_next, whole_take, takes_whole}
 use Rattle.ring_ends.specs.Machines.{IsMarked, IsMachine, CallBegins, consuming, without_last, longest_while}
-use Rattle.ring_ends.specs.Moves.{Due, Fed, MachineLaws}
 use Rattle.ring_ends.proofs.MachineCalls.{Begun, begun_seen, Step, Outcome, Refused, Goes, Over, one_step, out, shape_there, stays, whole_there}
 use Rattle.ring_ends.proofs.Steps.{none-some}
 

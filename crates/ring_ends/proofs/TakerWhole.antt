@@ -1,13 +1,9 @@
 -- A complete take of the consumer's end, access by access.
 use Rattle.std.proofs.Common.{◌≡◌, ℕ, Bool, Some, refl, ap, sym, subst, ◌∙◌}
-use Rattle.bits_core.specs.declared.shapes.Shape.{Shape}
+use Rattle.ring_ends.proofs.Common.{Shape, AreTakes, IsReplyToTake, reply_at_end, RingEnd, consuming}
 use Rattle.ring_core.specs.declared.replies.TakeReply as replies
 use Rattle.ring_core.specs.declared.replies.TakeReply.TheVariants as reply
-use Rattle.ring_core.specs.Takes.{AreTakes}
-use Rattle.ring_core.specs.ConsumerCalls.{IsReplyToTake, reply_at_end}
-use Rattle.ring_seats.specs.Ring.{RingEnd}
 use Rattle.ring_ends.specs.Ends.{HasTakes, HasTakenOf, TakeAdds}
-use Rattle.ring_ends.specs.Machines.{consuming}
 use Rattle.ring_ends.proofs.MachineWhole.{Ended, More, Refused, Whole, ending, list_there, more_there, over_list, shape_whole}
 use Rattle.ring_ends.proofs.TakerCalls.{over_adds, over_reply, take_laws}
 

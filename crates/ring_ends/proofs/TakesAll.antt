@@ -1,22 +1,16 @@
 -- A take of several items: its reply with their number, and the items that it took.
 use Rattle.std.proofs.Common.{rules, ◌≡◌, ⊎_elim, inl, inr, ℕ, ◌≤◌, Bool, true, false, Option, Some, None, List, [], ◌∷◌, length, take, refl, ap, sym, subst, ◌∙◌, arith}
 use Rattle.std.specs.Prelude.{◌+◌, ◌⊎◌, IfNone, IfSome, drop}
-use Rattle.bits_core.specs.declared.events.Event.{Event}
-use Rattle.bits_core.specs.declared.shapes.Shape.{Shape}
-use Rattle.bits_core.specs.Made.{Made}
+use Rattle.ring_ends.proofs.Common.{Event, Shape, Made, ConsumerState, is_taking, Ring, RingEnd, Grows, consuming, without_last}
 use Rattle.ring_core.specs.declared.replies.TakeReply as replies
 use Rattle.ring_core.specs.declared.replies.TakeReply.TheVariants as reply
 use Rattle.ring_core.specs.declared.replies.TakeBatchReply as batch_replies
 use Rattle.ring_core.specs.declared.replies.TakeBatchReply.TheVariants as batch_reply
 use Rattle.ring_core.specs.Items.{taken_of}
 use Rattle.ring_core.specs.Takes.{AreTakes, End, Open, Take, Takes}
-use Rattle.ring_core.specs.ConsumerState.{ConsumerState, is_taking}
 use Rattle.ring_core.specs.ConsumerCalls.{AreItemsOfTake, ConsumerStands, HasTakeMore, IsReplyToTake, ends_closed, items_at_end, last_items, last_take_reply, reply_at_end, take_batch_reply, take_reply_to}
 use Rattle.ring_ends.specs.CounterEnds.{TakeAllKept, TakeMade}
-use Rattle.ring_seats.specs.Ring.{Ring, RingEnd}
-use Rattle.ring_seats.specs.Steppers.{Grows}
 use Rattle.ring_ends.specs.Ends.{HasTakePart, HasTakenAll, HasTakes, TakeAllAdds, number_brought, whole_take}
-use Rattle.ring_ends.specs.Machines.{consuming, without_last}
 use Rattle.ring_ends.proofs.MachineCalls.{Goes, Outcome, Over, Refused, Step, out, shape_there, whole_there}
 use Rattle.ring_ends.proofs.MachineWhole as whole
 use Rattle.ring_ends.proofs.MachineWhole.{Ended, Whole, ending, list_there, more_there, over_list, shape_whole}
@@ -96,12 +90,7 @@ module _ (shape : Shape) (wanted : ℕ) (before after : List Event) (calls : Tak
         told = told;
         number = number;
         few = few_more shape wanted calls more is_more;
-        phrase = λ into same. record {
-          calls = calls;
-          before_is = has;
-          adds = subst (λ (t : Bool). TakeAllAdds t shape wanted calls first.0 into before after) (sym (ap ends_closed is_more.not_over))
-              (more, is_more, (sym told, ap (λ (n : ℕ). take n into) number ∙ same), added);
-        };
+        phrase = grind arith;
       }
 
   pub brought_more :

@@ -1,7 +1,7 @@
 use Rattle.std.proofs.Common.{arith, Bool, sym, subst, ◌∙◌}
 use Rattle.ring_ends.specs.Moves.{Fed, MayFeed}
 use Rattle.ring_ends.proofs.Accesses.{same}
-use Rattle.ring_ends.proofs.MachineWhole.{access_can, access_feeds, access_right, access_went, part_begins, went_nowhere}
+use Rattle.ring_ends.proofs.MachineWhole.{access_can, access_feeds, access_right, access_went, went_nowhere, went_same}
 use Rattle.ring_ends.proofs.calls.finish_scan.Goals as goal
 
 pub make-answer-requires-clause-right : goal.make-answer-requires-clause-right
@@ -40,4 +40,4 @@ reads-preserved g c =
     )
 
 pub reads-init : goal.reads-init
-reads-init g c = part_begins g.M.SideMachine.kind _ c.args.stepper.now (g.M.SideMachine.state c.args.machine.now) _ (g.O.Oracle.answers c.args.oracle.now) _ c.words-ring.ensures c.in-Some.ensures
+reads-init g c = search (arith, went_same, c.words-ring.ensures, c.in-Some.ensures)

@@ -1,9 +1,5 @@
 use Rattle.std.proofs.Common.{◌≡◌, ℕ, ◌+◌, ◌%◌, List, [], ◌∷◌, ◌++◌, refl, subst, ap, ◌∙◌}
-use Rattle.bits_core.specs.declared.events.Side.TheVariants.{C}
-use Rattle.bits_core.specs.Shape.{capacity_of, modulus_of}
-use Rattle.bits_core.specs.Made.{Made, events_of}
-use Rattle.ring_seats.specs.Programs.{Follows}
-use Rattle.ring_seats.proofs.CounterSteps.{same_shape}
+use Rattle.ring_ends.proofs.Common.{C, capacity_of, modulus_of, Made, events_of, Follows, same_shape}
 use Rattle.ring_ends.proofs.CounterTakerCalls.{cell_below, one_word, one_read, to_read, to_count, fetched, kept_take}
 use Rattle.ring_ends.proofs.counter_calls.fetch.Goals as goal
 

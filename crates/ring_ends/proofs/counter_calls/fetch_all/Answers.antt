@@ -1,7 +1,5 @@
 use Rattle.std.proofs.Common.{rules, ◌≡◌, ◌+◌, ◌%◌, length, ap, ◌∙◌}
-use Rattle.bits_core.specs.Shape.{capacity_of, modulus_of}
-use Rattle.ring_core.specs.ConsumerCalls.{items_reply}
-use Rattle.ring_seats.proofs.CounterSteps.{same_shape}
+use Rattle.ring_ends.proofs.Common.{capacity_of, modulus_of, items_reply, same_shape}
 use Rattle.ring_ends.proofs.CounterTakerCalls.{to_read, to_count, fetched, kept_take}
 use Rattle.ring_ends.proofs.counter_calls.fetch_all.Goals as goal
 

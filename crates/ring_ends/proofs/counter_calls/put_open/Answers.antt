@@ -1,9 +1,8 @@
 use Rattle.std.proofs.Common.{◌≡◌, ℕ, ◌+◌, ◌%◌, take, arith, sym, subst, ap, ◌∙◌}
-use Rattle.bits_core.specs.declared.shapes.Shape.{Shape}
+use Rattle.ring_ends.proofs.Common.{Shape, same_shape}
 use Rattle.bits_core.specs.Shape.{AllFit, capacity_of, modulus_of}
 use Rattle.bits_core.proofs.Fitting.{AllFit-take}
 use Rattle.ring_ends.proofs.CounterPutterCalls.{Fitting, kept, kept_full, to_scan, full_put, to_store, to_count, stored_put}
-use Rattle.ring_seats.proofs.CounterSteps.{same_shape}
 use Rattle.ring_ends.proofs.counter_calls.put_open.Goals.{After-fitting-most}
 use Rattle.ring_ends.proofs.counter_calls.put_open.Goals as goal
 

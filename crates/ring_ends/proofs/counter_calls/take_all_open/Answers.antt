@@ -2,10 +2,9 @@ use Rattle.std.proofs.Common.{◌≡◌, ℕ, ◌≤◌, Some, List, [], length,
 use Rattle.std.proofs.lemmas.List.{take_at}
 use Rattle.ring_core.specs.declared.replies.TakeBatchReply.TheVariants.{Taken}
 use Rattle.bits_core.specs.Shape.{take_batch_of}
-use Rattle.ring_core.specs.Takes.{Takes, Open}
+use Rattle.ring_ends.proofs.Common.{Takes, Open, RingEnd}
 use Rattle.ring_core.specs.ConsumerCalls.{take_batch_reply, items_reply}
 use Rattle.ring_ends.specs.declared.counter_calls.Scanned.TheVariants.{Shows}
-use Rattle.ring_seats.specs.Ring.{RingEnd}
 use Rattle.ring_ends.specs.CounterEnds.{TakerList, LookMade, HasLooked}
 use Rattle.ring_seats.proofs.CounterPuts.{length-first}
 use Rattle.ring_ends.proofs.CounterTakerCalls.{few_found, kept_none}

@@ -1,7 +1,6 @@
 use Rattle.std.proofs.Common.{rules, sym, ◌∙◌, subst}
 use Rattle.ring_core.specs.declared.replies.BatchReply.{BatchReply}
-use Rattle.ring_seats.specs.Ring.{RingEnd}
-use Rattle.ring_ends.specs.Ends.{HasPutAll}
+use Rattle.ring_ends.proofs.Common.{RingEnd, HasPutAll}
 use Rattle.ring_ends.proofs.CounterPutterCalls.{stored_phrase}
 use Rattle.ring_ends.proofs.StoredItems.{put_all_stores}
 use Rattle.ring_ends.proofs.counter_putters.CounterPutterPutEnd.put_all.Goals.{in-0, in_default}

@@ -1,7 +1,6 @@
 use Rattle.std.proofs.Common.{length, rules, sym, subst, ◌∙◌}
 use Rattle.ring_ends.specs.CounterEnds.{TakeAllKept}
-use Rattle.ring_seats.specs.Ring.{RingEnd}
-use Rattle.ring_ends.specs.Ends.{HasTakenAll}
+use Rattle.ring_ends.proofs.Common.{RingEnd, HasTakenAll}
 use Rattle.ring_ends.proofs.StoredItems.{take_all_takes}
 use Rattle.ring_ends.proofs.TakesAll.{kept_all, kept_within, still_open}
 use Rattle.ring_ends.proofs.counter_takers.CounterTakerTakeEnd.take_all.Goals.{After-take_all_open-reply}

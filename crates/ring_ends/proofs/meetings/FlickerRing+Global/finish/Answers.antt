@@ -1,10 +1,9 @@
 use Rattle.std.proofs.Common.{rules, ◌∙◌}
-use Rattle.ring_ends.specs.Machines.{consuming, producing}
+use Rattle.ring_ends.proofs.Common.{consuming, producing, ring_is_linearizable}
 use Rattle.ring_ends.specs.Meetings.{ClosesAre, TellsAre}
 use Rattle.ring_ends.proofs.Idle.{closes_are, machine_idle, tells_are}
 use Rattle.ring_ends.proofs.PutterCalls.{call_seen, put_laws, put_seen}
 use Rattle.ring_ends.proofs.TakerCalls.{take_laws, take_seen, taking_seen}
-use Rattle.ring_core.proofs.LawLemmas.{ring_is_linearizable}
 use Rattle.ring_ends.proofs.Passed.{takes_are_prefix, takes_are_all}
 use Rattle.ring_ends.proofs.meetings.FlickerRing+Global.finish.Goals as goal
 

@@ -1,9 +1,8 @@
-use Rattle.ring_ends.specs.Machines.{consuming, producing}
+use Rattle.ring_ends.proofs.Common.{consuming, producing, ring_is_linearizable}
 use Rattle.ring_ends.proofs.Idle.{machine_idle}
 use Rattle.ring_ends.proofs.PutterCalls.{call_seen, put_laws}
 use Rattle.ring_ends.proofs.TakerCalls.{take_laws, taking_seen}
 use Rattle.std.proofs.Common.{rules, ◌∙◌}
-use Rattle.ring_core.proofs.LawLemmas.{ring_is_linearizable}
 use Rattle.ring_ends.proofs.Passed.{takes_are_prefix}
 use Rattle.ring_ends.proofs.meetings.FlickerRing+Global.meet.Goals as goal
 

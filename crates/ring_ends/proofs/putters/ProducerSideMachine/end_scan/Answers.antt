@@ -1,7 +1,5 @@
 use Rattle.std.proofs.Common.{true, subst}
-use Rattle.ring_core.specs.ProducerState.{ProducerState}
-use Rattle.ring_ends.specs.Machines.{producing}
-use Rattle.ring_ends.specs.Moves.{Fed}
+use Rattle.ring_ends.proofs.Common.{ProducerState, producing, Fed}
 use Rattle.ring_ends.proofs.putters.ProducerSideMachine.end_scan.Goals as goal
 
 pub returns : goal.returns

@@ -1,9 +1,5 @@
 use Rattle.std.proofs.Common.{Option, sym, subst, ◌∙◌}
-use Rattle.std.specs.Prelude.{IfSome}
-use Rattle.bits_core.specs.declared.events.Access.{Access}
-use Rattle.bits_core.specs.declared.events.Side.TheVariants.{P}
-use Rattle.bits_core.specs.Open.{IsOpenRight}
-use Rattle.ring_ends.specs.Machines.{producing}
+use Rattle.ring_ends.proofs.Common.{IfSome, Access, P, IsOpenRight, producing}
 use Rattle.ring_ends.proofs.MachineMoves.{tells}
 use Rattle.ring_ends.proofs.PutterCalls.{put_due}
 use Rattle.ring_ends.proofs.putters.ProducerSideMachine.next.Goals as goal

@@ -1,6 +1,4 @@
-use Rattle.ring_core.specs.ProducerState.{Close}
-use Rattle.ring_ends.specs.Machines.{producing}
-use Rattle.ring_seats.specs.Steppers.{AreAnswered, IsAskedOnce}
+use Rattle.ring_ends.proofs.Common.{Close, producing, AreAnswered, IsAskedOnce}
 use Rattle.ring_ends.proofs.MachineCalls.{Step, same_step, step_few, step_invariant, step_lawful, step_stands}
 use Rattle.ring_ends.proofs.PutterCalls.{close_goes, close_one, close_over, is_over, put_laws, put_seen, put_step}
 use Rattle.ring_ends.proofs.putters.Putter.step_close.Given.{Over}

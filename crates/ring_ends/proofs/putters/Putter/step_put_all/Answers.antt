@@ -1,7 +1,6 @@
 use Rattle.std.proofs.Common.{arith, ◌∙◌}
 use Rattle.ring_core.specs.ProducerState.{Put}
-use Rattle.ring_ends.specs.Machines.{producing}
-use Rattle.ring_seats.specs.Steppers.{AreAnswered, IsAskedOnce}
+use Rattle.ring_ends.proofs.Common.{producing, AreAnswered, IsAskedOnce}
 use Rattle.ring_ends.proofs.MachineCalls.{Step, same_step, step_few, step_invariant, step_lawful}
 use Rattle.ring_ends.proofs.PutterCalls.{batch_none, batch_one, batch_some, call_seen, few_accesses, few_marked, put_laws, put_seen, put_shape, put_step}
 use Rattle.ring_ends.proofs.putters.Putter.step_put_all.Given.{Over}

@@ -1,7 +1,5 @@
 use Rattle.std.proofs.Common.{◌∙◌}
-use Rattle.ring_core.specs.ProducerState.{Close}
-use Rattle.ring_seats.specs.Steppers.{AreAnswered}
-use Rattle.ring_ends.specs.Machines.{producing}
+use Rattle.ring_ends.proofs.Common.{Close, AreAnswered, producing}
 use Rattle.ring_ends.proofs.MachineWhole.{Whole, idle_after, lawful_whole, ready, same_whole, whole_invariant, whole_of}
 use Rattle.ring_ends.proofs.PutterCalls.{call_seen, put_begun, put_laws, put_seen}
 use Rattle.ring_ends.proofs.PutterWhole.{close_ended}

@@ -1,8 +1,6 @@
 use Rattle.std.proofs.Common.{arith, [], ◌∷◌, sym, ◌∙◌}
 use Rattle.ring_core.specs.ProducerState.{Put}
-use Rattle.ring_ends.specs.Ends.{HasPutAll}
-use Rattle.ring_seats.specs.Steppers.{AreAnswered}
-use Rattle.ring_ends.specs.Machines.{producing}
+use Rattle.ring_ends.proofs.Common.{HasPutAll, AreAnswered, producing}
 use Rattle.ring_ends.proofs.MachineWhole.{Whole, idle_after, lawful_whole, same_whole, whole_invariant, whole_of}
 use Rattle.ring_ends.proofs.PutterCalls.{call_seen, put_begun, put_laws, put_seen}
 use Rattle.ring_ends.proofs.PutterWhole.{item_told, put_ended, some_item}

@@ -1,5 +1,4 @@
-use Rattle.ring_seats.specs.Steppers.{StandsAs}
-use Rattle.bits_core.specs.declared.events.Side.TheVariants.{P}
+use Rattle.ring_ends.proofs.Common.{StandsAs, P}
 use Rattle.ring_ends.proofs.PutterCalls.{put_seen}
 use Rattle.ring_ends.proofs.putters.PutterPutEnd.shape.Goals as goal
 

@@ -1,7 +1,5 @@
 use Rattle.std.proofs.Common.{subst}
-use Rattle.ring_core.specs.ConsumerState.{ConsumerState}
-use Rattle.ring_ends.specs.Machines.{consuming}
-use Rattle.ring_ends.specs.Moves.{Fed}
+use Rattle.ring_ends.proofs.Common.{ConsumerState, consuming, Fed}
 use Rattle.ring_ends.proofs.TakerCalls.{take_fed}
 use Rattle.ring_ends.proofs.takers.ConsumerSideMachine.end_word.Goals as goal
 

@@ -1,9 +1,5 @@
 use Rattle.std.proofs.Common.{Option, sym, subst, ◌∙◌}
-use Rattle.std.specs.Prelude.{IfSome}
-use Rattle.bits_core.specs.declared.events.Access.{Access}
-use Rattle.bits_core.specs.declared.events.Side.TheVariants.{C}
-use Rattle.bits_core.specs.Open.{IsOpenRight}
-use Rattle.ring_ends.specs.Machines.{consuming}
+use Rattle.ring_ends.proofs.Common.{IfSome, Access, C, IsOpenRight, consuming}
 use Rattle.ring_ends.proofs.MachineMoves.{tells}
 use Rattle.ring_ends.proofs.TakerCalls.{take_due}
 use Rattle.ring_ends.proofs.takers.ConsumerSideMachine.next.Goals as goal

@@ -1,8 +1,5 @@
 use Rattle.std.proofs.Common.{refl}
-use Rattle.ring_core.specs.ConsumerState.{is_taking}
-use Rattle.ring_ends.specs.Ends.{wants_next}
-use Rattle.ring_ends.specs.Machines.{consuming}
-use Rattle.ring_seats.specs.Steppers.{AreAnswered, IsAskedOnce}
+use Rattle.ring_ends.proofs.Common.{is_taking, wants_next, consuming, AreAnswered, IsAskedOnce}
 use Rattle.ring_ends.proofs.MachineCalls.{Step, same_step, step_few, step_invariant, step_lawful, step_of}
 use Rattle.ring_ends.proofs.TakerCalls.{begins_seen, few_taken, take_laws, take_none, take_one, take_seen, take_some, take_begun, take_wanted}
 use Rattle.ring_ends.proofs.takers.Taker.step_take.Given.{Over}

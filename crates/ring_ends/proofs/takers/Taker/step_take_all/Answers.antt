@@ -1,7 +1,5 @@
 use Rattle.std.proofs.Common.{◌≡◌, length}
-use Rattle.ring_core.specs.ConsumerState.{is_taking}
-use Rattle.ring_ends.specs.Machines.{consuming}
-use Rattle.ring_seats.specs.Steppers.{AreAnswered, IsAskedOnce}
+use Rattle.ring_ends.proofs.Common.{is_taking, consuming, AreAnswered, IsAskedOnce}
 use Rattle.ring_ends.proofs.MachineCalls.{Step, same_step, step_few, step_invariant, step_lawful, step_of}
 use Rattle.ring_ends.proofs.TakerCalls.{begins_seen, few_taken, take_laws, take_seen, take_begun, wants_same}
 use Rattle.ring_ends.proofs.TakesAll.{step_none, step_one, step_others, step_room, step_some, step_within}

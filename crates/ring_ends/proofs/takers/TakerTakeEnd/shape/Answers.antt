@@ -1,5 +1,4 @@
-use Rattle.ring_seats.specs.Steppers.{StandsAs}
-use Rattle.bits_core.specs.declared.events.Side.TheVariants.{C}
+use Rattle.ring_ends.proofs.Common.{StandsAs, C}
 use Rattle.ring_ends.proofs.TakerCalls.{take_seen}
 use Rattle.ring_ends.proofs.takers.TakerTakeEnd.shape.Goals as goal
 

@@ -1,7 +1,6 @@
 use Rattle.std.proofs.Common.{arith, IsSome, refl, sym, ap, subst, ◌∙◌}
 use Rattle.ring_ends.specs.Ends.{HasTaken, wants_next}
-use Rattle.ring_seats.specs.Steppers.{AreAnswered}
-use Rattle.ring_ends.specs.Machines.{consuming}
+use Rattle.ring_ends.proofs.Common.{AreAnswered, consuming}
 use Rattle.ring_ends.proofs.MachineWhole.{Whole, idle_after, lawful_whole, same_whole, whole_invariant, whole_of}
 use Rattle.ring_ends.proofs.PutterWhole.{told_so}
 use Rattle.ring_ends.proofs.StoredItems.{take_takes}

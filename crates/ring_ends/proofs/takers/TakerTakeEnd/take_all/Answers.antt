@@ -1,8 +1,5 @@
 use Rattle.std.proofs.Common.{arith, ◌≡◌, ◌≤◌, IsSome, length, drop, refl, sym, ap, subst, ◌∙◌}
-use Rattle.std.specs.Prelude.{IfSome}
-use Rattle.ring_ends.specs.Ends.{HasTakenAll, number_brought, wants_next}
-use Rattle.ring_seats.specs.Steppers.{AreAnswered}
-use Rattle.ring_ends.specs.Machines.{consuming}
+use Rattle.ring_ends.proofs.Common.{IfSome, HasTakenAll, number_brought, wants_next, AreAnswered, consuming}
 use Rattle.ring_ends.proofs.MachineWhole.{Whole, idle_after, lawful_whole, same_whole, whole_invariant, whole_of}
 use Rattle.ring_ends.proofs.TakerCalls.{begins_seen, take_begun, take_laws, take_seen, taking_seen}
 use Rattle.ring_ends.proofs.StoredItems.{take_all_takes}
