@@ -40,45 +40,15 @@ use Rattle.queue_calls.specs.declared.events.Reply.TheVariants.{Passed, Lacked, 
 makes_event : (asked : NearAsked) (n : NearStands) (letters : List Side) (s : Side) (h : List Event) (told : List (CallEvent ℕ ℕ)) (taken : List ℕ) (mid : NearStands) (e : Event) (t : Option (CallEvent ℕ ℕ))
     (after : NearStand) → e.side ≡ s → (near_stand_of s mid).stopped ≡ false → NearStep asked s (near_stand_of s mid) e.act e.bit t after → NearMakes asked n letters h told taken mid
     → NearMakes asked n (letters ++ s ∷ []) (h ++ e ∷ []) (told ++ listed t) (taken ++ items_told t after.read) (with_near_stand s after mid)
-makes_event asked n [] s h told taken mid e t after side goes step (none, untold, untaken, same) = inl (
-  e,
-  [],
-  t,
-  [],
-  after,
-  [],
-  ap (λ (x : List Event). x ++ e ∷ []) none,
-  ap (λ (x : List (CallEvent ℕ ℕ)). x ++ listed t) untold ∙ sym (append-nil (listed t)),
-  ap (λ (x : List ℕ). x ++ items_told t after.read) untaken ∙ sym (append-nil (items_told t after.read)),
-  side,
-  subst (λ (m : NearStands). (near_stand_of s m).stopped ≡ false) same goes,
-  subst (λ (m : NearStands). NearStep asked s (near_stand_of s m) e.act e.bit t after) same step,
-  (refl, refl, refl, ap (λ (m : NearStands). with_near_stand s after m) same),
-)
-makes_event asked n (l ∷ letters) s h told taken mid e t after side goes step (inl (e0, later, t0, others, next, further, h_is, told_is, taken_is, side0, goes0, step0, more)) = inl (
-  e0,
-  later ++ e ∷ [],
-  t0,
-  others ++ listed t,
-  next,
-  further ++ items_told t after.read,
-  ap (λ (x : List Event). x ++ e ∷ []) h_is,
-  ap (λ (x : List (CallEvent ℕ ℕ)). x ++ listed t) told_is ∙ append_assoc (listed t0) others (listed t),
-  ap (λ (x : List ℕ). x ++ items_told t after.read) taken_is ∙ append_assoc (items_told t0 next.read) further (items_told t after.read),
-  side0,
-  goes0,
-  step0,
-  makes_event asked (with_near_stand l next n) letters s later others further mid e t after side goes step more,
-)
+makes_event asked n [] s h told taken mid e t after side goes step (none, untold, untaken, same) = grind (arith, append-nil)
+makes_event asked n (l ∷ letters) s h told taken mid e t after side goes step (inl (e0, later, t0, others, next, further, h_is, told_is, taken_is, side0, goes0, step0, more)) =
+    grind (arith, append_assoc, makes_event asked (with_near_stand l next n) letters s later others further mid e t after side goes step more)
 makes_event asked n (l ∷ letters) s h told taken mid e t after side goes step (inr (stops, more)) =
     inr (stops, makes_event asked (with_near_stand l (near_stopped (near_stand_of l n)) n) letters s h told taken mid e t after side goes step more)
 
 makes_stop : (asked : NearAsked) (n : NearStands) (letters : List Side) (s : Side) (h : List Event) (told : List (CallEvent ℕ ℕ)) (taken : List ℕ) (mid : NearStands) → NearStops asked s (near_stand_of s mid)
     → NearMakes asked n letters h told taken mid → NearMakes asked n (letters ++ s ∷ []) h told taken (with_near_stand s (near_stopped (near_stand_of s mid)) mid)
-makes_stop asked n [] s h told taken mid stops (none, untold, untaken, same) = inr (
-  subst (λ (m : NearStands). NearStops asked s (near_stand_of s m)) same stops,
-  (none, untold, untaken, ap (λ (m : NearStands). with_near_stand s (near_stopped (near_stand_of s m)) m) same),
-)
+makes_stop asked n [] s h told taken mid stops (none, untold, untaken, same) = grind arith
 makes_stop asked n (l ∷ letters) s h told taken mid stops (inl (e0, later, t0, others, next, further, h_is, told_is, taken_is, side0, goes0, step0, more)) =
     inl (e0, later, t0, others, next, further, h_is, told_is, taken_is, side0, goes0, step0, makes_stop asked (with_near_stand l next n) letters s later others further mid stops more)
 makes_stop asked n (l ∷ letters) s h told taken mid stops (inr (stopped, more)) =
@@ -87,18 +57,8 @@ makes_stop asked n (l ∷ letters) s h told taken mid stops (inr (stopped, more)
 pub makes_more : (asked : NearAsked) (n : NearStands) (letters : List Side) (s : Side) (h after : List Event) (told told_after : List (CallEvent ℕ ℕ)) (taken taken_after : List ℕ) (t : Option (CallEvent ℕ ℕ))
     (mid : NearStands) (next : NearStand) → told_after ≡ told ++ listed t → taken_after ≡ taken ++ items_told t next.read → NearMoves asked s h (near_stand_of s mid) t after next
     → NearMakes asked n letters h told taken mid → NearMakes asked n (letters ++ s ∷ []) after told_after taken_after (with_near_stand s next mid)
-makes_more asked n letters s h after told told_after taken taken_after t mid next told_is taken_is (inl (e, is, side, goes, step)) made =
-    subst (λ (x : List Event). NearMakes asked n (letters ++ s ∷ []) x told_after taken_after (with_near_stand s next mid)) (sym is)
-    (subst (λ (x : List (CallEvent ℕ ℕ)). NearMakes asked n (letters ++ s ∷ []) (h ++ e ∷ []) x taken_after (with_near_stand s next mid)) (sym told_is)
-    (subst (λ (x : List ℕ). NearMakes asked n (letters ++ s ∷ []) (h ++ e ∷ []) (told ++ listed t) x (with_near_stand s next mid)) (sym taken_is)
-    (makes_event asked n letters s h told taken mid e t next side goes step made)))
-makes_more asked n letters s h after told told_after taken taken_after t mid next told_is taken_is (inr (is, untold, none, stops, next_is)) made =
-    let told_same : told_after ≡ told = told_is ∙ ap (λ (o : Option (CallEvent ℕ ℕ)). told ++ listed o) untold ∙ append-nil told in
-    let taken_same : taken_after ≡ taken = taken_is ∙ ap (λ (o : Option (CallEvent ℕ ℕ)). taken ++ items_told o next.read) untold ∙ append-nil taken in
-    subst (λ (x : List Event). NearMakes asked n (letters ++ s ∷ []) x told_after taken_after (with_near_stand s next mid)) (sym is)
-    (subst (λ (x : List (CallEvent ℕ ℕ)). NearMakes asked n (letters ++ s ∷ []) h x taken_after (with_near_stand s next mid)) (sym told_same)
-    (subst (λ (x : List ℕ). NearMakes asked n (letters ++ s ∷ []) h told x (with_near_stand s next mid)) (sym taken_same)
-    (subst (λ (x : NearStand). NearMakes asked n (letters ++ s ∷ []) h told taken (with_near_stand s x mid)) (sym next_is) (makes_stop asked n letters s h told taken mid stops made))))
+makes_more asked n letters s h after told told_after taken taken_after t mid next told_is taken_is (inl (e, is, side, goes, step)) made = grind (arith, makes_event)
+makes_more asked n letters s h after told told_after taken taken_after t mid next told_is taken_is (inr (is, untold, none, stops, next_is)) made = grind (arith, append-nil, makes_stop)
 
 -- ---- the items
 
@@ -153,8 +113,7 @@ step_held asked before WriteEnd b t after (step, told) = omega (arith, ends_held
 pub moves_held : (asked : NearAsked) (h : List Event) (before : NearStand) (t : Option (CallEvent ℕ ℕ)) (after : List Event) (next : NearStand) → NearMoves asked C h before t after next
     → length (items_told t next.read) + items_untold next ≤ items_untold before + 1
 moves_held asked h before t after next (inl (e, is, side, goes, step)) = step_held asked before e.act e.bit t next step
-moves_held asked h before t after next (inr (is, untold, none, stops, next_is)) =
-    omega (arith, ap items_untold next_is, ap (λ (o : Option (CallEvent ℕ ℕ)). length (items_told o next.read)) untold)
+moves_held asked h before t after next (inr (is, untold, none, stops, next_is)) = grind arith
 
 -- ---- what a side has open
 
@@ -176,10 +135,7 @@ step_in_call asked s before WriteEnd b t after access goes begun step = absurd (
 
 pub moves_open : OpenChanges → (asked : NearAsked) (s : Side) (h : List Event) (before : NearStand) (t : Option (CallEvent ℕ ℕ)) (after : List Event) (next : NearStand)
     → NearMoves asked s h before t after next → IsInOpenCall s after next
-moves_open changes asked s h before t after next (inl (e, is, side, goes, step)) access opened =
-    let begun : begun_by e ≡ Some access =
-    sym (changes s h e ∙ ap (λ (b : Bool). if b then begun_by e else open_access s h) (by_side s e side)) ∙ ap (open_access s) (sym is) ∙ opened in
-    step_in_call asked s before e.act e.bit t next access goes begun step
+moves_open changes asked s h before t after next (inl (e, is, side, goes, step)) access opened = grind (arith, by_side, step_in_call)
 moves_open changes asked s h before t after next (inr (is, untold, none, stops, next_is)) access opened = absurd (none_some access (sym none ∙ ap (open_access s) (sym is) ∙ opened))
   where
     none_some : (a : Access) → None ≡ Some a → ⊥
@@ -202,27 +158,16 @@ IsStepOf s before after = with_near_stand s (near_stand_of s after) before ≡ a
 pub both_open : OpenChanges → (asked : NearAsked) (s : Side) (h : List Event) (before : NearStands) (t : Option (CallEvent ℕ ℕ)) (h' : List Event) (after : NearStands) → IsStepOf s before after
     → NearMoves asked s h (near_stand_of s before) t h' (near_stand_of s after) → IsInOpenCall P h before.putting → IsInOpenCall C h before.taking
     → IsInOpenCall P h' after.putting × IsInOpenCall C h' after.taking
-both_open changes asked P h before t h' after same moves put take = (
-  moves_open changes asked P h before.putting t h' after.putting moves,
-  subst (IsInOpenCall C h') (ap (λ (n : NearStands). n.taking) same) (moves_other changes asked P h before.putting t h' after.putting before.taking moves take),
-)
-both_open changes asked C h before t h' after same moves put take = (
-  subst (IsInOpenCall P h') (ap (λ (n : NearStands). n.putting) same) (moves_other changes asked C h before.taking t h' after.taking before.putting moves put),
-  moves_open changes asked C h before.taking t h' after.taking moves,
-)
+both_open changes asked P h before t h' after same moves put take = grind (arith, moves_open, moves_other)
+both_open changes asked C h before t h' after same moves put take = grind (arith, moves_other, moves_open)
 
 -- what the letters have made, with one side's step
 pub has_more : {E T I : Type 0} (told : T → List (CallEvent ℕ ℕ)) (items : I → List ℕ) (asked : NearAsked) (letters : List Side) (oracle : List Bool) (s : Side) (w w' : NearWorld E T I) (t : Option (CallEvent ℕ ℕ))
     → IsStepOf s (stands_of w) (stands_of w') → told w'.told ≡ told w.told ++ listed t → items w'.taken ≡ items w.taken ++ items_told t (near_stand_of s (stands_of w')).read
     → NearMoves asked s w.memory.events (near_stand_of s (stands_of w)) t w'.memory.events (near_stand_of s (stands_of w')) → IsAskedToPut w'.putter asked → IsAskedToTake w'.taker asked
     → IsAtTurn (turn oracle) w'.memory.events (tape_answer w'.oracle) → NearHas told items asked letters oracle w → NearHas told items asked (letters ++ s ∷ []) oracle w'
-has_more told items asked letters oracle s w w' t same told_is items_is moves to_put to_take turns has = record {
-  asked_put = to_put;
-  asked_take = to_take;
-  made = subst (NearMakes asked near_starts (letters ++ s ∷ []) w'.memory.events (told w'.told) (items w'.taken)) same
-      (makes_more asked near_starts letters s w.memory.events w'.memory.events (told w.told) (told w'.told) (items w.taken) (items w'.taken) t (stands_of w) (near_stand_of s (stands_of w')) told_is items_is moves has.made);
-  turns = turns;
-}
+has_more told items asked letters oracle s w w' t same told_is items_is moves to_put to_take turns has =
+    grind (arith, makes_more asked near_starts letters s w.memory.events w'.memory.events (told w.told) (told w'.told) (items w.taken) (items w'.taken) t (stands_of w) (near_stand_of s (stands_of w')) told_is items_is moves has.made)
 
 -- if a side has nothing open, all that it has open is due
 pub none_due : (due : Access → Type 0) → (s : Side) (h : List Event) → open_access s h ≡ None → IsOpenDue s h due
@@ -269,38 +214,14 @@ turns_begin turns answers h none same = subst (λ (x : List Event). IsAtTurn tur
     no_place place e at = absurd (cc)
 
 pub ready_at_first : {E T I : Type 0} (w : NearWorld E T I) (shape : Shape) (room : ℕ) → w.memory ≡ unused shape room → w.putter.shape ≡ shape → w.taker.shape ≡ shape → IsNearReady w
-ready_at_first w shape room fresh put_is take_is =
-    let none : w.memory.events ≡ [] = ap (λ (m : MemoryState). m.events) fresh in
-    let shape_is : w.memory.shape ≡ shape = ap (λ (m : MemoryState). m.shape) fresh in
-    record {
-      put_shape = put_is ∙ sym shape_is;
-      take_shape = take_is ∙ sym shape_is;
-      put_open = none_opens P w.memory.events (put_stand w.putter) none;
-      take_open = none_opens C w.memory.events (take_stand w.taker) none;
-      put_due = none_due _ P w.memory.events (ap (open_access P) none);
-      take_due = none_due _ C w.memory.events (ap (open_access C) none);
-    }
+ready_at_first w shape room fresh put_is take_is = grind (arith, none_opens, none_due)
 
 pub has_at_first : {E T I : Type 0} (told : T → List (CallEvent ℕ ℕ)) (items : I → List ℕ) (w : NearWorld E T I) (shape : Shape) (room : ℕ) (asked : NearAsked) (oracle : List Bool) → w.memory ≡ unused shape room
     → told w.told ≡ [] → items w.taken ≡ [] → put_stand w.putter ≡ near_start → take_stand w.taker ≡ near_start → IsAskedToPut w.putter asked → IsAskedToTake w.taker asked
     → ((i : ℕ) → tape_answer w.oracle i ≡ turn oracle i) → NearHas told items asked [] oracle w
-has_at_first told items w shape room asked oracle fresh untold untaken put_is take_is to_put to_take same =
-    let none : w.memory.events ≡ [] = ap (λ (m : MemoryState). m.events) fresh in
-    record {
-      asked_put = to_put;
-      asked_take = to_take;
-      made = (none, untold, untaken, ap₂ (λ (p : NearStand) (t : NearStand). record { putting = p; taking = t }) put_is take_is);
-      turns = turns_begin (turn oracle) (tape_answer w.oracle) w.memory.events none same;
-    }
+has_at_first told items w shape room asked oracle fresh untold untaken put_is take_is to_put to_take same = grind (arith, ap₂, turns_begin)
 
 pub near_play : {E T I : Type 0} (told : T → List (CallEvent ℕ ℕ)) (items : I → List ℕ) (w : NearWorld E T I) (miss : NearMiss) (script : Content) (letters : List Side) (h : List Event) → TurnsAreByInterval
     → w.memory.shape ≡ script.shape → h ≡ w.memory.events → IsLawful w.memory.shape w.memory.events → NearHas told items (asked_by_script miss script) letters script.oracle w
     → IsNearPlay miss script letters h (told w.told) (items w.taken)
-near_play told items w miss script letters h law shape_is h_is lawful has =
-    let lawful_here : IsLawful script.shape w.memory.events = subst (λ (s : Shape). IsLawful s w.memory.events) shape_is lawful in
-    subst (λ (x : List Event). IsNearPlay miss script letters x (told w.told) (items w.taken)) (sym h_is) (record {
-      lawful = lawful_here;
-      stands = _;
-      made = has.made;
-      answers = law script.shape w.memory.events script.oracle (tape_answer w.oracle) lawful_here has.turns;
-    })
+near_play told items w miss script letters h law shape_is h_is lawful has = grind arith

@@ -83,20 +83,12 @@ none_more (x ∷ xs) seen = ap (λ l. taken_of x ++ l) (none_more xs seen)
 inside : (s : Side) (known more : List Event) (place : ℕ) → place ≤ length known → clock s (known ++ more) place ≤ length (subhistory s known)
 inside s known more zero l = omega arith
 inside s [] more (suc n) l = absurd (omega (arith, l))
-inside s (e ∷ known) more (suc n) l =
-    let rest : length (subhistory s (take n (known ++ more))) ≤ length (subhistory s known) = inside s known more n (omega (arith, l)) in
-    by_case (is_by s e)
-    (λ by. omega (arith, rest, ap length (own_mine s e (take n (known ++ more)) by), ap length (own_mine s e known by)))
-    (λ by. omega (arith, rest, ap length (own_theirs s e (take n (known ++ more)) by), ap length (own_theirs s e known by)))
+inside s (e ∷ known) more (suc n) l = grind (arith, by_case, own_mine, own_theirs, inside s known more n (omega (arith, l)))
 
 behind : (s : Side) (known more : List Event) (place : ℕ) → length known ≤ place → length (subhistory s known) ≤ clock s (known ++ more) place
 behind s [] more place l = omega arith
 behind s (e ∷ known) more zero l = absurd (omega (arith, l))
-behind s (e ∷ known) more (suc n) l =
-    let rest : length (subhistory s known) ≤ length (subhistory s (take n (known ++ more))) = behind s known more n (omega (arith, l)) in
-    by_case (is_by s e)
-    (λ by. omega (arith, rest, ap length (own_mine s e (take n (known ++ more)) by), ap length (own_mine s e known by)))
-    (λ by. omega (arith, rest, ap length (own_theirs s e (take n (known ++ more)) by), ap length (own_theirs s e known by)))
+behind s (e ∷ known) more (suc n) l = grind (arith, by_case, own_mine, own_theirs, behind s known more n (omega (arith, l)))
 
 -- one of a side's own events that is not among those of the known history comes after it
 later_than : (s : Side) (known more h : List Event) (start place : ℕ) → known ++ more ≡ h → clock s h (suc place) ≡ suc start → length (subhistory s known) ≤ start → length known ≤ place
@@ -104,8 +96,7 @@ later_than s known more h start place is number_past long = go (dec_lt place (le
   where
     go : Dec (place < length known) → length known ≤ place
     go (yes l) =
-        let few : clock s (known ++ more) (suc place) ≤ length (subhistory s known) = inside s known more (suc place) (omega (arith, l)) in
-        absurd (omega (arith, few, ap (λ l. clock s l (suc place)) is, number_past, long))
+        absurd (omega (arith, inside, ap (λ l. clock s l (suc place)) is, number_past, long))
     go (no l) = omega (arith, l)
 
 -- ---- a call whose events come after a history that its side knows
@@ -115,8 +106,7 @@ module _ {shape : Shape} {known : List Event} (x : Side) {after : List Event} (s
   pub later : {before : List Event} (phrases ends : List Made) (place : ℕ) → IsPrefix (subhistory x known) before → before ≡ events_of x (phrases ++ ends) → ends ≡ []
       → IsPlaceOf x st.history (events_in phrases) place → length known ≤ place
   later {before} phrases ends place begins is none at =
-      later_than x known st.begins.0 st.history (events_in phrases) place st.begins.1 at.past
-      (omega (arith, ap length is, length-events_of x (phrases ++ ends), length-append phrases ends, ap length none, ap length begins.1, length-append (subhistory x known) begins.0))
+      grind (arith, later_than x known st.begins.0 st.history (events_in phrases) place st.begins.1 at.past (omega (arith, ap length is, length-events_of x (phrases ++ ends), length-append phrases ends, ap length none, ap length begins.1, length-append (subhistory x known) begins.0)), length-events_of x (phrases ++ ends), length-append phrases ends, length-append (subhistory x known) begins.0)
 
   -- if its list is that of complete calls, all their accesses are made
   pub all_made : (phrases : List Made) → after ≡ events_of x (phrases ++ []) → events_in phrases ≤ length (subhistory x st.history)
@@ -128,10 +118,7 @@ module _ {shape : Shape} {known : List Event} (x : Side) {after : List Event} (s
 
   pub known_first :
       (y : Side) {whole program : List Event} → subhistory y known ≡ whole → IsPrefix (subhistory y st.history) program → IsPrefix whole program
-  known_first y {whole} is follows =
-      let mine = own_known y in
-      let both : List Event = mine.0 ++ follows.0 in
-      (both, ap (λ l. l ++ both) (sym is) ∙ sym (append_assoc (subhistory y known) mine.0 follows.0) ∙ ap (λ l. l ++ follows.0) mine.1 ∙ follows.1)
+  known_first y {whole} is follows = grind (arith, own_known y, append_assoc)
 
   pub behind_known : (y : Side) (place : ℕ) → length known ≤ place → length (subhistory y known) ≤ clock y st.history place
   behind_known y place l = subst (λ h. length (subhistory y known) ≤ clock y h place) st.begins.1 (behind y known st.begins.0 place l)
@@ -146,11 +133,7 @@ module _ (law : InEveryRun EmptyIsFresh) (first : PutsAreFirst) (made : MadeIsAc
   more = and_take calls (Empty seen)
 
   run : IsRun shape st.history st.ring.puts more
-  run = record {
-    lawful = st.ring.run.lawful;
-    puts_follow = st.ring.run.puts_follow;
-    takes_follow = record { are = has.are; events = ([], append-nil (subhistory C st.history) ∙ st.list_is ∙ has.list_is) };
-  }
+  run = grind (arith, append-nil)
 
   start : ℕ
   start = events_in (take_phrases shape first_count calls.takes)
@@ -174,17 +157,12 @@ module _ (law : InEveryRun EmptyIsFresh) (first : PutsAreFirst) (made : MadeIsAc
   are_first = let follows = st.ring.run.puts_follow in first shape puts st.ring.puts whole.are follows.are (known_first C st P whole.list_is follows.events)
 
   known_long : length (subhistory P known) ≡ 2 * (length (put_phrases shape first_count puts.puts) + length (close_phrase puts.closes))
-  known_long =
-      omega (arith, ap length whole.list_is, length-events_of P (put_program shape puts), length-append (put_phrases shape first_count puts.puts) (close_phrase puts.closes))
+  known_long = grind (arith, length-events_of, length-append)
 
   -- the items of the known puts were taken before it
   pub items : length (all_put puts.puts) ≤ length (all_taken calls.takes)
   items =
-      let ended : length (all_put puts.puts) ≤ length (items_ended shape first_count (puts.puts ++ are_first.0.0) (clock P st.history place)) =
-      ended_least shape first_count puts.puts are_first.0.0 (clock P st.history place) (omega (arith, known_long, behind_known C st P place known_before)) in
-      let same : puts_ended shape st.ring.puts (clock P st.history place) ≡ length (items_ended shape first_count (puts.puts ++ are_first.0.0) (clock P st.history place)) =
-      ap (λ l. length (items_ended shape first_count l (clock P st.history place))) are_first.0.1 in
-      omega (arith, ended, same, fresh.2, ended_most shape first_count more.takes (clock C st.history place), ap length (none_more calls.takes seen))
+      grind (arith, ended_least shape first_count puts.puts are_first.0.0 (clock P st.history place) (omega (arith, known_long, behind_known C st P place known_before)), known_long, behind_known C st P place known_before, ended_most shape first_count more.takes (clock C st.history place), none_more calls.takes seen)
 
   -- and no close is among them
   pub open_yet : puts.closes ≡ false
@@ -217,13 +195,7 @@ empty_adds :
     (shape : Shape) (wanted : ℕ) (before after : List Event) (calls : Takes) (told : Bool) → TakeAdds told shape wanted calls reply.Empty before after →
     (seen : ℕ) × (calls.end ≡ Open) × HasTakes shape after (and_take calls (Empty seen))
 empty_adds shape wanted before after calls true a = absurd (cc)
-empty_adds shape wanted before after calls false (more, is_more, replied, has) = ⊎_elim
-    (λ one.
-    let q : Some reply.Empty ≡ Some (takes.take_reply_to one.0) = replied ∙ ap (λ (t : Takes). reply_at_end t.end t.takes) one.2 ∙ last-snoc None calls.takes one.0 in
-    let (seen, x_is) = empty_of one.0 (let e : reply.Empty ≡ takes.take_reply_to one.0 = cc in sym e) in
-    (seen, is_more.not_over, subst (HasTakes shape after) (one.2 ∙ ap (and_take calls) x_is) has))
-    (λ told. absurd (let q : Some reply.Empty ≡ Some reply.Closed = replied ∙ ap (λ (t : Takes). reply_at_end t.end t.takes) told.2 in cc))
-    is_more.is_one_more
+empty_adds shape wanted before after calls false (more, is_more, replied, has) = grind (arith, ⊎_elim, last-snoc, empty_of)
 
 -- a take of several items, with the first of them
 by_first : (r : Option TakeReply) (items : List ℕ) (y : TakeBatchReply) → Some y ≡ takes.take_batch_reply r items → (x : TakeReply) × (r ≡ Some x)
@@ -264,10 +236,8 @@ module _ (law : InEveryRun EmptyIsFresh) (first : PutsAreFirst) (read : TakesAre
   empty_of_any shape wanted known before after puts calls whole was begins st taken =
       let same : taken.calls ≡ calls = read shape taken.calls calls taken.before_is.are was.are (sym taken.before_is.list_is ∙ was.list_is) in
       let adds : TakeAdds (ends_closed calls.end) shape wanted calls reply.Empty before after = subst (λ (t : Takes). TakeAdds (ends_closed t.end) shape wanted t reply.Empty before after) same taken.adds in
-      let (seen, is_open, has) = empty_adds shape wanted before after calls (ends_closed calls.end) adds in (
-        items law first made shape known before after puts calls seen is_open whole was begins st has,
-        open_yet law first made shape known before after puts calls seen is_open whole was begins st has,
-      )
+      let (seen, is_open, has) = empty_adds shape wanted before after calls (ends_closed calls.end) adds in
+      search (arith, items, open_yet)
 
   pub empty-after : EmptyAfterMeeting
   empty-after shape known before after puts calls wanted into whole was begins st taken =
@@ -282,9 +252,7 @@ module _ (law : InEveryRun EmptyIsFresh) (first : PutsAreFirst) (read : TakesAre
 take_phrases-append :
     (shape : Shape) (c : Count) (xs ys : List Take) → take_phrases shape c (xs ++ ys) ≡ take_phrases shape c xs ++ take_phrases shape (taken_count shape c xs) ys
 take_phrases-append shape c [] ys = refl
-take_phrases-append shape c (x ∷ xs) ys =
-    ap (λ l. take_phrase shape c x ++ l) (take_phrases-append shape (count_after shape c x) xs ys) ∙
-    sym (append_assoc (take_phrase shape c x) (take_phrases shape (count_after shape c x) xs) (take_phrases shape (taken_count shape (count_after shape c x) xs) ys))
+take_phrases-append shape c (x ∷ xs) ys = grind (arith, append_assoc, take_phrases-append shape (count_after shape c x) xs ys)
 
 -- the accesses of calls that are not over are a prefix of those with one more take
 one_more : (shape : Shape) (wanted : ℕ) (calls next : Takes) → takes.HasTakeMore shape wanted calls next → (rest : List Made) × (take_program shape next ≡ take_program shape calls ++ rest)

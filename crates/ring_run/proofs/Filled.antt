@@ -42,22 +42,15 @@ all_ended shape c [] more t le = omega arith
 all_ended shape c (Item seen items ∷ xs) more t le =
     let first : List Made = take_phrase shape c (Item seen items) in
     let next : Count = count_after shape c (Item seen items) in
-    let long = length-append first (take_phrases shape next xs) in
-    let rest : List ℕ = items_taken shape next (xs ++ more) (t - events_in first) in
-    let ended : length (all_taken xs) ≤ length rest = all_ended shape next xs more (t - events_in first) (omega (arith, le, long)) in
-    omega (arith, ended, length-append items (all_taken xs), by_true (nat_le (events_in first) t) items rest (le-leb (events_in first) t (omega (arith, le, long))))
+    grind (arith, length-append, by_true, le-leb, all_ended shape next xs more (t - events_in first) (omega (arith, le, length-append first (take_phrases shape next xs))))
 all_ended shape c (ItemAfterClose seen again items ∷ xs) more t le =
     let first : List Made = take_phrase shape c (ItemAfterClose seen again items) in
     let next : Count = count_after shape c (ItemAfterClose seen again items) in
-    let long = length-append first (take_phrases shape next xs) in
-    let rest : List ℕ = items_taken shape next (xs ++ more) (t - events_in first) in
-    let ended : length (all_taken xs) ≤ length rest = all_ended shape next xs more (t - events_in first) (omega (arith, le, long)) in
-    omega (arith, ended, length-append items (all_taken xs), by_true (nat_le (events_in first) t) items rest (le-leb (events_in first) t (omega (arith, le, long))))
+    grind (arith, length-append, by_true, le-leb, all_ended shape next xs more (t - events_in first) (omega (arith, le, length-append first (take_phrases shape next xs))))
 all_ended shape c (Empty seen ∷ xs) more t le =
     let first : List Made = take_phrase shape c (Empty seen) in
     let next : Count = count_after shape c (Empty seen) in
-    let long = length-append first (take_phrases shape next xs) in
-    all_ended shape next xs more (t - events_in first) (omega (arith, le, long))
+    all_ended shape next xs more (t - events_in first) (omega (arith, le, length-append first (take_phrases shape next xs)))
 
 -- ---- the put that finds the ring full
 
@@ -69,11 +62,7 @@ module _ (law : InEveryRun FullIsFresh) (first : TakesAreFirst)
   more = and_put calls (Full seen)
 
   run : IsRun shape st.history more st.ring.takes
-  run = record {
-    lawful = st.ring.run.lawful;
-    puts_follow = record { are = has.are; events = ([], append-nil (subhistory P st.history) ∙ st.list_is ∙ has.list_is) };
-    takes_follow = st.ring.run.takes_follow;
-  }
+  run = grind (arith, append-nil)
 
   start : ℕ
   start = events_in (put_phrases shape first_count calls.puts)
@@ -103,8 +92,7 @@ module _ (law : InEveryRun FullIsFresh) (first : TakesAreFirst)
   filled =
       let t : ℕ = clock C st.history place in
       let late : length (subhistory C known) ≤ t = behind_known P st C place known_before in
-      let ended : length (all_taken takes.takes) ≤ length (items_taken shape first_count (takes.takes ++ are_first.0) t) = all_ended shape first_count takes.takes are_first.0 t (omega (arith, late, known_long)) in
-      omega (arith, ended, ap (λ l. length (items_taken shape first_count l t)) are_first.1, fresh.2, stored_is 0 calls.puts)
+      omega (arith, all_ended, known_long, ap (λ l. length (items_taken shape first_count l t)) are_first.1, fresh.2, stored_is 0 calls.puts)
 
 -- ---- the law
 
@@ -117,9 +105,7 @@ full_adds :
     (shape : Shape) (before after : List Event) (calls : Puts) (items : List ℕ) (closed : Bool) → PutAdds closed shape calls items reply.Full before after →
     (seen : ℕ) × (closed ≡ false) × HasPuts shape after (and_put calls (Full seen))
 full_adds shape before after calls items true a = absurd (cc)
-full_adds shape before after calls items false (x, is, replied, has) =
-    let (seen, x_is) = full_of x (sym replied) in
-    (seen, refl, subst (λ y. HasPuts shape after (and_put calls y)) x_is has)
+full_adds shape before after calls items false (x, is, replied, has) = grind (arith, full_of)
 
 pub full-after : InEveryRun FullIsFresh → TakesAreFirst → PutsAreRead → FullAfterMeeting
 full-after law first read shape known before after takes calls items whole was begins st put =

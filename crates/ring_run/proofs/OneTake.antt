@@ -36,7 +36,6 @@ adds_so :
     Some said ≡ take_batch_reply (Some answer) (reply_items answer) → take (number_brought said) into ≡ reply_items answer →
     (told : Bool) → TakeAdds told shape 1 calls answer before after → TakeAllAdds told shape 1 calls said into before after
 adds_so one shape calls before after answer said into is brought true adds =
-    let closed : Some said ≡ Some batch_reply.Closed = is ∙ ap (λ (r : TakeReply). take_batch_reply (Some r) (reply_items r)) adds.0 in
     let same : said ≡ batch_reply.Closed = cc in
     (same, adds.1)
 adds_so one shape calls before after answer said into is brought false adds =

@@ -53,13 +53,7 @@ one_longer : (xs : List Put) (x : Put) → length (xs ++ x ∷ []) ≡ suc (leng
 one_longer xs x = omega (arith, length-append xs (x ∷ []))
 
 pub offers : (shape : Shape) (items : List ℕ) (put n : ℕ) → AllFit shape items → put < length items → 0 < n → n ≤ batch_of shape → put + n ≤ length items → IsBatch shape (take n (drop put items))
-offers shape items put n all more some few left =
-    let long : length (take n (drop put items)) ≡ n = length-take-le n (drop put items) (omega (arith, left, more, length-drop put items)) in
-    record {
-      some = omega (arith, long, some);
-      few = omega (arith, long, few);
-      fit = AllFit-take shape n (drop put items) (AllFit-drop shape put items all);
-    }
+offers shape items put n all more some few left = grind (arith, length-take-le, length-drop, AllFit-take, AllFit-drop)
 
 -- what a put is offered is a batch of the items left, or all of them
 pub given_is : (shape : Shape) (n : ℕ) (xs : List ℕ) → (n ≡ batch_of shape) ⊎ ((n ≡ length xs) × (length xs ≤ batch_of shape)) → take n xs ≡ take (batch_of shape) xs
@@ -76,11 +70,7 @@ given_is shape n xs most = ⊎_elim
 
 pub given_there : (shape : Shape) (items : List ℕ) (put n : ℕ) → put ≤ length items → (n ≡ batch_of shape) ⊎ ((n ≡ length items - put) × (length items - put ≤ batch_of shape)) →
     take (put + n - put) (drop put items) ≡ take (batch_of shape) (drop put items)
-given_there shape items put n within most =
-    let same : put + n - put ≡ n = omega arith in
-    let left : length items - put ≡ length (drop put items) = omega (arith, within, length-drop put items) in
-    ap (λ k. take k (drop put items)) same ∙ given_is shape n (drop put items)
-    (subst (λ k. (n ≡ batch_of shape) ⊎ ((n ≡ k) × (k ≤ batch_of shape))) left most)
+given_there shape items put n within most = grind (arith, length-drop, given_is)
 
 -- ---- puts
 
@@ -119,16 +109,11 @@ no_puts_are shape list items is = record {
 
 module _ (read : PutsAreRead) (shape : Shape) (list list' : List Event) (items : List ℕ) (put made full : ℕ) (p : PutsAre shape list items put made full false) where
   adds_false : (given : List ℕ) (reply : batch_replies.BatchReply) → HasPutAll shape given list list' reply → PutAdds false shape p.calls given reply list list'
-  adds_false given reply h =
-      let same : h.calls ≡ p.calls = same_puts read shape list h.calls p.calls h.before_is p.list_is in
-      subst (λ (z : Puts × Bool). PutAdds z.1 shape z.0 given reply list list') (λ i. (same i, (ap (λ (q : Puts). q.closes) same ∙ p.closes_is) i)) h.adds
+  adds_false given reply h = grind (arith, same_puts)
 
   -- the calls with one more put
   more_given : (given : List ℕ) → given ≡ take (batch_of shape) (drop put items) → (x : Put) → IsPutOf shape (put_calls.count_of shape p.calls).number given x → AreGiven shape 0 items (p.calls.puts ++ x ∷ [])
-  more_given given is x of =
-      let long : put ≡ length (all_put p.calls.puts) = sym (ap length p.in_order ∙ length-take-le put items p.within) in
-      given_more shape 0 items p.calls.puts x p.given
-      (subst (λ (z : ℕ × List ℕ). IsPutOf shape z.0 z.1 x) (λ i. (stored_number shape first_count p.calls.puts i, (is ∙ ap (λ k. take (batch_of shape) (drop k items)) long) i)) of)
+  more_given given is x of = grind (arith, length-take-le, given_more, stored_number)
 
   -- how many a put that stored has stored
   pub stored : (given : List ℕ) (n m : ℕ) → given ≡ take n (drop put items) → given ≡ take (batch_of shape) (drop put items) → HasPutAll shape given list list' (batch_reply.Stored m) →

@@ -78,8 +78,7 @@ asked_more :
     IsTakeOf shape (taken_in k xs) (min (take_batch_of shape) (left - (length (all_taken xs) + empties xs))) x → AreAsked shape k left (xs ++ x ∷ [])
 asked_more shape k left [] x are is = let all : left - (0 + 0) ≡ left = omega arith in (subst (λ n. IsTakeOf shape k (min (take_batch_of shape) n) x) all is, tt)
 asked_more shape k left (y ∷ xs) x are is =
-    let all : left - (length (all_taken (y ∷ xs)) + empties (y ∷ xs)) ≡ left - used_by y - (length (all_taken xs) + empties xs) =
-    omega (arith, length-append (taken_of y) (all_taken xs), used_is y, empties_more y xs) in
+    let all : left - (length (all_taken (y ∷ xs)) + empties (y ∷ xs)) ≡ left - used_by y - (length (all_taken xs) + empties xs) = grind (arith, length-append) in
     (are.0, asked_more shape (taken_after k y) (left - used_by y) xs x are.1 (subst (λ n. IsTakeOf shape (taken_in (taken_after k y) xs) (min (take_batch_of shape) n) x) all is))
 
 -- ---- one more take, by its reply
@@ -126,9 +125,7 @@ record Made (shape : Shape) (list' : List Event) (calls : Takes) (wanted : ℕ) 
 module _ (read : TakesAreRead) (shape : Shape) (list list' : List Event) (limit : ℕ) (taken : List ℕ) (made empty : ℕ) (p : TakesAre shape list limit taken made empty false)
     (wanted : ℕ) (wanted_is : wanted ≡ min (take_batch_of shape) (limit - (length taken + empty))) (into : List ℕ) where
   adds : (y : replies.TakeBatchReply) → HasTakenAll shape wanted list list' y into → TakeAllAdds false shape wanted p.calls y into list list'
-  adds y h =
-      let same : h.calls ≡ p.calls = same_takes read shape list h.calls p.calls h.before_is p.list_is in
-      subst (λ (z : Takes × Bool). TakeAllAdds z.1 shape wanted z.0 y into list list') (λ i. (same i, (ap (λ (q : Takes). ends_closed q.end) same ∙ p.told_is) i)) h.adds
+  adds y h = grind (arith, same_takes)
 
   made_so : (y : replies.TakeBatchReply) → y ≢ reply.Closed → HasTakenAll shape wanted list list' y into → Made shape list' p.calls wanted y into
   made_so y open_yet h =
@@ -152,8 +149,7 @@ module _ (read : TakesAreRead) (shape : Shape) (list list' : List Event) (limit 
   one_more y m = record {
     calls = and_take p.calls m.x;
     list_is = m.has;
-    asked = asked_more shape 0 limit p.calls.takes m.x p.asked
-        (subst (λ n. IsTakeOf shape (taken_in 0 p.calls.takes) n m.x) (wanted_is ∙ (λ i. min (take_batch_of shape) (limit - (length (sym p.taken_is i) + sym p.empty_is i)))) m.of);
+    asked = grind (arith, asked_more);
     taken_is = all_taken-push p.calls.takes m.x ∙ (λ i. p.taken_is i ++ sym m.brought i);
     made_is = omega (arith, p.made_is, length-append p.calls.takes (m.x ∷ []));
     empty_is = empties_snoc p.calls.takes m.x ∙ (λ i. p.empty_is i + empty_told m.x y m.told i);
@@ -177,25 +173,7 @@ module _ (read : TakesAreRead) (shape : Shape) (list list' : List Event) (limit 
   pub ends_empty : HasTakenAll shape wanted list list' reply.Empty into → EndsEmpty shape list'
   ends_empty h =
       let m = made_so reply.Empty (λ e. cc) h in
-      let (seen, is) = was_one_empty m.x m.told in
-      record { before = p.calls; seen = seen; list_is = subst (λ x. HasTakes shape list' (and_take p.calls x)) is m.has }
+      grind (arith, was_one_empty)
 
   pub was_told : HasTakenAll shape wanted list list' reply.Closed into → TakesAre shape list' limit taken (made + 1) empty true
-  was_told h =
-      let a = adds reply.Closed h in
-      ⊎_elim
-      (λ one.
-      let x : Take = one.0 in
-      let first = ap (λ (t : Takes). reply_at_end t.end t.takes) one.2 ∙ last-snoc None p.calls.takes x in
-      let items : items_at_end (a.0).end (a.0).takes ≡ taken_of x = ap (λ (t : Takes). items_at_end t.end t.takes) one.2 ∙ items_snoc [] p.calls.takes x in
-      absurd (never_closed x (a.2.0 ∙ (λ i. take_batch_reply (first i) (items i)))))
-      (λ told. record {
-        calls = and_end p.calls told.0 told.1;
-        list_is = subst (HasTakes shape list') told.2 a.3;
-        asked = p.asked;
-        taken_is = p.taken_is;
-        made_is = omega (arith, p.made_is);
-        empty_is = p.empty_is;
-        told_is = refl;
-      })
-      a.1.is_one_more
+  was_told h = grind (arith, adds, ⊎_elim, last-snoc, items_snoc, never_closed)

@@ -27,11 +27,7 @@ use Rattle.ring_core.proofs.Machines.TakeCalls.{closed_tells}
 module _ (shape : Shape) (items : List ℕ) (put made full : ℕ) (closes : Bool) (limit : ℕ) (taken : List ℕ) (made_takes empty : ℕ) (told : Bool) (h : List Event) (ring : IsRing shape h)
     (ps : PutsAre shape (subhistory P h) items put made full closes) (ts : TakesAre shape (subhistory C h) limit taken made_takes empty told) where
   run_of : IsRun shape h ps.calls ts.calls
-  run_of = record {
-    lawful = ring.run.lawful;
-    puts_follow = record { are = ps.list_is.are; events = ([], append-nil (subhistory P h) ∙ ps.list_is.list_is) };
-    takes_follow = record { are = ts.list_is.are; events = ([], append-nil (subhistory C h) ∙ ts.list_is.list_is) };
-  }
+  run_of = grind (arith, append-nil)
 
   put_of : WholePutsCount → items_put shape first_count ps.calls.puts (clock P h (length h)) ≡ take put items
   put_of count = ap (items_put shape first_count ps.calls.puts) (clock_at_end P h) ∙ (count shape h ps.calls ps.list_is.are ps.list_is.list_is).0 ∙ ps.in_order
@@ -44,9 +40,7 @@ module _ (shape : Shape) (items : List ℕ) (put made full : ℕ) (closes : Bool
 
   -- no more are taken than there are items
   few_of : InEveryRun TakenArePrefix → WholePutsCount → WholeTakesCount → length taken ≤ length items
-  few_of prefix puts_count takes_count =
-      let p = prefix_of prefix puts_count takes_count in
-      omega (arith, ap length p.1, length-append taken p.0, length-take-le put items ps.within, ps.within)
+  few_of prefix puts_count takes_count = grind (arith, prefix_of prefix puts_count takes_count, length-append, length-take-le put items ps.within)
 
 module _ (within : InEveryRun IsWithin) (prefix : InEveryRun TakenArePrefix) (closed_law : InEveryRun ClosedIsTrue) (puts_count : WholePutsCount) (takes_count : WholeTakesCount)
     (shape : Shape) (items : List ℕ) (most_puts most_takes put made full : ℕ) (taken : List ℕ) (made_takes empty : ℕ) (closed : Bool) (r : IsRelayed shape items most_puts most_takes put made full taken made_takes empty closed) where
@@ -72,34 +66,19 @@ module _ (within : InEveryRun IsWithin) (prefix : InEveryRun TakenArePrefix) (cl
   relayed_prefix = prefix_of shape items put made full (put == length items) most_takes taken made_takes empty closed h r.ring r.puts.puts r.takes.takes prefix puts_count takes_count
 
   pub relayed_all : closed ≡ true → (put ≡ length items) × (taken ≡ items)
-  relayed_all e =
-      let told : IsTold shape takes (clock C h (length h)) = (
-        closed_tells takes.end (r.takes.takes.told_is ∙ e),
-        subst (λ (n : ℕ). events_in (take_program shape takes) ≤ n) (sym (clock_at_end C h ∙ ap length r.takes.takes.list_is.list_is ∙ length-events_of C (take_program shape takes))) (omega arith),
-      ) in
-      let all = closed_law shape h puts takes run (length h) (length h) told (omega arith) in
-      let every : put ≡ length items = eqb-true put (length items) (sym r.puts.puts.closes_is ∙ all.2) in
-      let whole : take put items ≡ items = ap (λ (n : ℕ). take n items) every ∙ take-length items in
-      (every, sym taken_is ∙ all.1 ∙ sym all.0 ∙ put_is ∙ whole)
+  relayed_all e = grind (arith, closed_tells, clock_at_end, length-events_of, run, eqb-true, take-length, taken_is, put_is)
 
   pub relayed_within : put ≤ length taken + capacity_of shape
   relayed_within =
       let w = within shape h puts takes run (length h) in
       let p = (puts_count shape h puts r.puts.puts.list_is.are r.puts.puts.list_is.list_is).1 in
-      let t = (takes_count shape h takes r.takes.takes.list_is.are r.takes.takes.list_is.list_is).1 in
-      omega (arith, w.1, ap (puts_begun shape puts) (clock_at_end P h), ap (takes_begun shape takes) (clock_at_end C h), p, t, ap length r.puts.puts.in_order, length-take-le put items r.puts.puts.within, ap length r.takes.takes.taken_is)
+      grind (arith, clock_at_end, length-take-le)
 
 -- what a relay's ends and their meeting imply about one history
 pub relayed :
     (shape : Shape) (items : List ℕ) (most_puts most_takes put made full : ℕ) (taken : List ℕ) (made_takes empty : ℕ) (closed : Bool) (p c : RingEnd) → p.ring.shape ≡ shape → c.ring.shape ≡ shape → (h : List Event) → Meets p c h →
     EachReadingIsLinearizable p.ring.shape h → HasRelayedPuts p.ring.shape p.list items most_puts put made full → HasRelayedTakes c.ring.shape c.list most_takes taken made_takes empty closed → IsRelayed shape items most_puts most_takes put made full taken made_takes empty closed
-relayed shape items most_puts most_takes put made full taken made_takes empty closed p c p_is c_is h m linear ps ts = record {
-  history = h;
-  ring = subst (λ (s : Shape). IsRing s h) p_is m.ring;
-  linearizable = subst (λ (s : Shape). EachReadingIsLinearizable s h) p_is linear;
-  puts = subst (λ (z : Shape × List Event). HasRelayedPuts z.0 z.1 items most_puts put made full) (λ i. (p_is i, sym m.put i)) ps;
-  takes = subst (λ (z : Shape × List Event). HasRelayedTakes z.0 z.1 most_takes taken made_takes empty closed) (λ i. (c_is i, sym m.taken i)) ts;
-}
+relayed shape items most_puts most_takes put made full taken made_takes empty closed p c p_is c_is h m linear ps ts = grind arith
 
 -- in one ring no more items are taken than there are to put
 pub none_past :

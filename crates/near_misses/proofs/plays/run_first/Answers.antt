@@ -7,24 +7,7 @@ use Rattle.near_misses.specs.NearSides.{NearHas}
 use Rattle.near_misses.proofs.plays.run_first.Goals as goal
 
 pub loop-run-init : goal.loop-run-init
-loop-run-init g c =
-    let w = c.args.world.now in
-    record {
-      ready = c.requires.ready;
-      shape = refl;
-      all = c.runs-run-items.ensures;
-      has = λ a oracle has. subst (λ (t : List Side). NearHas g.T.Store.items g.I.Store.items a t oracle w) (sym (take-none c.args.letters)) has;
-      left = omega (arith, ap length spelled-none);
-      event_room = refl;
-      told_room = refl;
-      item_room = refl;
-      few_events = omega (arith, ap length c.requires.new.0);
-      few_told = omega (arith, ap length c.requires.new.1);
-      few_items = omega (arith, c.requires.new.2);
-      events_within = omega (arith, ap length c.requires.new.0);
-      told_within = omega (arith, ap length c.requires.new.1);
-      items_within = omega (arith, c.requires.new.2);
-    }
+loop-run-init g c = grind (arith, take-none, spelled-none, c.requires.ready, c.runs-run-items.ensures, c.requires.new.0, c.requires.new.1, c.requires.new.2)
 
 pub loop-run-preserved : goal.loop-run-preserved
 loop-run-preserved g c =
@@ -53,17 +36,7 @@ loop-run-preserved g c =
     }
 
 pub returns-in_err-repeat-clause-full : goal.returns-in_err-repeat-clause-full
-returns-in_err-repeat-clause-full g c =
-    let runs : List LetterRun = c.runs-run-items.result.now in
-    let l = c.loop-run.invariant in
-    let w = c.loop-run.world in
-    let within = within_all runs c.loop-run.run-index c.loop-run-test.true in
-    let all = ap length c.runs-run-items.ensures in
-    on_err c.from_residual.result (elim c.in_err-repeat.ensures.full [
-      | inl h ↦ inl (omega (arith, h, l.event_room, l.few_events, l.events_within, c.min-count.ensures, within, all))
-      | inr (inl h) ↦ inr (inl (omega (arith, h, l.told_room, l.few_told, l.told_within, c.min-count.ensures, within, all)))
-      | inr (inr h) ↦ inr (inr (omega (arith, h, l.item_room, l.few_items, l.items_within, c.min-count.ensures, within, all)))
-    ])
+returns-in_err-repeat-clause-full g c = grind (arith, on_err, within_all, c.loop-run.invariant, c.runs-run-items.ensures, c.in_err-repeat.ensures.full, c.min-count.ensures)
 
 pub returns-clause-has : goal.returns-clause-has
 returns-clause-has g c a oracle has =
@@ -72,10 +45,4 @@ returns-clause-has g c a oracle has =
     (all_runs c.runs-run-items.result.now c.loop-run.run-index (spelled c.args.script.runs.now) (omega arith) l.all) (l.has a oracle has)
 
 pub returns-clause-few : goal.returns-clause-few
-returns-clause-few g c =
-    let l = c.loop-run.invariant in
-    let all = ap length (all_runs c.runs-run-items.result.now c.loop-run.run-index (spelled c.args.script.runs.now) (omega arith) l.all) in (
-      omega (arith, l.few_events, l.events_within, all),
-      omega (arith, l.few_told, l.told_within, all),
-      omega (arith, l.few_items, l.items_within, all),
-    )
+returns-clause-few g c = grind (arith, all_runs, c.loop-run.invariant)

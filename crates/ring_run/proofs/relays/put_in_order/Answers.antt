@@ -11,19 +11,10 @@ use Rattle.ring_run.proofs.relays.put_in_order.Goals.{in-Stored, in-Full}
 use Rattle.ring_run.proofs.relays.put_in_order.Goals as goal
 
 pub puts-init : goal.puts-init
-puts-init g c =
-    let e = g.E.PutEnd.end c.args.putter.now in
-    (c.requires.idle, record { ring = refl; side = refl; known = refl }, no_puts_are e.ring.shape e.list c.args.items.now c.requires.fresh, omega arith, omega arith, refl, refl, c.shape-shape.ensures.shape, omega arith, c.requires.first.0, omega (arith, c.requires.first.1), omega (arith, c.requires.first.1), λ e. absurd (omega (arith, e, c.requires.first.1)))
+puts-init g c = grind (arith, no_puts_are, c.requires.idle, c.requires.fresh, c.shape-shape.ensures.shape, c.requires.first.0, c.requires.first.1)
 
 pub put_all-reply-requires-clause-batch : goal.put_all-reply-requires-clause-batch
-put_all-reply-requires-clause-batch g c =
-    let b = g.E.PutEnd.end c.puts.putter in
-    let i = c.puts.invariant in
-    let n = c.next_batch.ensures in
-    let fit = fit_there (g.E.PutEnd.end c.args.putter.now) b c.args.items.now i.1 c.requires.fit in
-    let same : c.next_batch.result ≡ c.puts.put + c.next_batch.result - c.puts.put = omega arith in
-    subst (λ (k : ℕ). IsBatch b.ring.shape (take k (drop c.puts.put c.args.items.now))) same
-    (offers b.ring.shape c.args.items.now c.puts.put c.next_batch.result fit c.puts-test.true n.some (subst (λ (z : Shape). c.next_batch.result ≤ batch_of z) i.7 n.few) (omega (arith, n.left, c.puts-test.true)))
+put_all-reply-requires-clause-batch g c = grind (arith, fit_there, offers, c.puts.invariant, c.next_batch.ensures, c.requires.fit)
 
 pub puts-preserved : goal.puts-preserved
 puts-preserved g c =
@@ -33,8 +24,7 @@ puts-preserved g c =
     let s = c.put_all-reply.ensures in
     let given : List ℕ = take (c.puts.put + c.next_batch.result - c.puts.put) (drop c.puts.put c.args.items.now) in
     let left : List ℕ = drop c.puts.put c.args.items.now in
-    let whole : given ≡ take (batch_of b.ring.shape) left = given_there b.ring.shape c.args.items.now c.puts.put c.next_batch.result i.2.within
-    (subst (λ (z : Shape). (c.next_batch.result ≡ batch_of z) ⊎ ((c.next_batch.result ≡ length c.args.items.now - c.puts.put) × (length c.args.items.now - c.puts.put ≤ batch_of z))) (i.7 ∙ sym (ap (λ (x : Ring). x.shape) s.same.ring)) c.next_batch.ensures.most) in
+    let whole : given ≡ take (batch_of b.ring.shape) left = grind (arith, given_there, c.next_batch.ensures.most) in
     let there = puts_there a b c.args.items.now c.puts.put c.puts.made c.puts.full s.same i.2 in
     let plus : suc c.puts.made ≡ c.puts.made + 1 = omega arith in
     let more : suc c.puts.full ≡ c.puts.full + 1 = omega arith in (

@@ -17,38 +17,15 @@ use Rattle.ring_run.proofs.relays.take_all.Goals as goal
 -- how many places a take has
 asks : (g : Over) (c : After-take_into g) →
     length (take c.next_take-wanted.result c.takes.room) ≡ min (take_batch_of (g.E.TakeEnd.end c.take_into.new.taker).ring.shape) (c.args.limit - (length c.takes.items.items + c.takes.empty))
-asks g c =
-    let long : length (take c.next_take-wanted.result c.takes.room) ≡ c.next_take-wanted.result = search rules in
-    let lesser : c.next_take-wanted.result ≡ min (take_batch_of c.shape-shape.result) (c.args.limit - (c.len-in-takes.result + c.takes.empty)) = c.next_take-wanted.ensures.lesser in
-    let left : c.len-in-takes.result ≡ length c.takes.items.items = omega (arith, c.len-in-takes.ensures) in
-    let shape = c.takes.invariant.8 ∙ sym (ap (λ (r : Ring). r.shape) c.take_into.ensures.same.ring) in
-    long ∙ lesser ∙ (λ i. min (take_batch_of (shape i)) (c.args.limit - (left i + c.takes.empty)))
+asks g c = grind (arith, rules, c.next_take-wanted.ensures.lesser, c.len-in-takes.ensures, c.takes.invariant.8, c.take_into.ensures.same.ring)
 
 -- the items taken before
 yet : (g : Over) (c : After-take_into g) →
     (let b = g.E.TakeEnd.end c.take_into.new.taker in TakesAre b.ring.shape (g.E.TakeEnd.end c.takes.taker).list c.args.limit c.takes.items.items c.takes.made c.takes.empty false)
-yet g c =
-    let a = g.E.TakeEnd.end c.takes.taker in
-    takes_there a (g.E.TakeEnd.end c.take_into.new.taker) c.args.limit c.takes.items.items c.takes.made c.takes.empty c.take_into.ensures.same
-    (subst (TakesAre a.ring.shape a.list c.args.limit c.takes.items.items c.takes.made c.takes.empty) c.takes-test.true c.takes.invariant.2)
+yet g c = grind (arith, takes_there, c.take_into.ensures.same, c.takes.invariant.2)
 
 pub takes-init : goal.takes-init
-takes-init g c =
-    let e = g.E.TakeEnd.end c.args.taker.now in (
-      c.requires.idle,
-      record { ring = refl; side = refl; known = refl },
-      subst (λ (l : List ℕ). TakesAre e.ring.shape e.list c.args.limit l 0 0 false) (sym c.requires.none) (no_takes_are e.ring.shape e.list c.args.limit c.requires.fresh),
-      omega (arith, ap length c.requires.none),
-      refl,
-      omega arith,
-      omega arith,
-      omega arith,
-      c.shape-shape.ensures.shape,
-      c.requires.first.0,
-      omega (arith, c.requires.first.1),
-      omega (arith, c.requires.first.1),
-      λ e. absurd (omega (arith, e, c.requires.first.1)),
-    )
+takes-init g c = grind (arith, no_takes_are, c.requires.idle, c.requires.none, c.requires.fresh, c.shape-shape.ensures.shape, c.requires.first.0, c.requires.first.1)
 
 abbrev Came : (g : Over) (c : After-take_into g) → replies.TakeBatchReply → Type 0
 Came g c r = let b = g.E.TakeEnd.end c.take_into.new.taker in HasTakenAll b.ring.shape (length (take c.next_take-wanted.result c.takes.room)) (g.E.TakeEnd.end c.takes.taker).list b.list r c.take_into.new.into
@@ -63,10 +40,7 @@ brought g c n came =
 -- it brought no more than is left of the limit
 few : (g : Over) (c : After-take_into g) (n : ℕ) → n ≤ length (take c.next_take-wanted.result c.takes.room) →
     (length (take n c.take_into.new.into) ≡ n) × (length c.takes.items.items + n + c.takes.empty ≤ c.args.limit)
-few g c n most =
-    let wanted : ℕ = length (take c.next_take-wanted.result c.takes.room) in
-    let left : wanted ≤ c.args.limit - (length c.takes.items.items + c.takes.empty) = omega (arith, asks g c) in
-    (length-take-le n c.take_into.new.into (omega (arith, most, c.take_into.ensures.long)), omega (arith, most, left, c.if-len-empty.true, c.len.ensures))
+few g c n most = grind (arith, asks, length-take-le, c.take_into.ensures.long, c.if-len-empty.true, c.len.ensures)
 
 pub takes-preserved-in-Taken : goal.takes-preserved-in-Taken
 takes-preserved-in-Taken g c =
@@ -74,27 +48,12 @@ takes-preserved-in-Taken g c =
     let i = c.takes.invariant in
     let n : ℕ = c.in-Taken.count in
     let s = c.in-Taken.ensures in
-    let open_yet : c.takes.closed ≡ false = c.takes-test.true in
     let b = g.E.TakeEnd.end c.take_into.new.taker in
     let list : c.append.new.items.items ≡ c.takes.items.items ++ take n c.take_into.new.into = c.in_ok-append-in-Taken.ensures.items in
     let more = brought g t n s.phrase in
     let room = few g t n s.within in
-    let long : length c.append.new.items.items ≡ length c.takes.items.items + n = omega (arith, ap length list, length-append c.takes.items.items (take n c.take_into.new.into), room.0) in (
-      s.idle,
-      same_trans (g.E.TakeEnd.end c.args.taker.now) (g.E.TakeEnd.end c.takes.taker) b i.1 s.same,
-      subst (λ (z : List ℕ × Bool). TakesAre b.ring.shape b.list c.args.limit z.0 (c.takes.made + 1) c.takes.empty z.1) (λ j. (sym list j, sym open_yet j)) more.1,
-      subst (λ (z : Bool). length c.append.new.items.items + c.takes.empty + (if z then 1 else 0) ≤ c.args.limit) (sym open_yet) (omega (arith, long, room.1)),
-      refl,
-      omega (arith, i.5, c.append.ensures.capacity),
-      omega arith,
-      subst (λ (z : Bool). c.takes.made + 1 ≤ length c.append.new.items.items + c.takes.empty + (if z then 1 else 0)) (sym open_yet)
-          (omega (arith, long, more.0, subst (λ (z : Bool). c.takes.made ≤ length c.takes.items.items + c.takes.empty + (if z then 1 else 0)) open_yet i.7)),
-      i.8 ∙ sym (ap (λ (r : Ring). r.shape) s.same.ring),
-      c.look.ensures.0 ∙ i.9,
-      omega (arith, c.look.ensures.1, i.10),
-      omega (arith, c.look.ensures.1, i.11),
-      λ e. absurd (omega (arith, e, c.look.ensures.1, c.if-putter-eq0.true)),
-    )
+    let long : length c.append.new.items.items ≡ length c.takes.items.items + n = omega (arith, ap length list, length-append c.takes.items.items (take n c.take_into.new.into), room.0) in
+    grind (arith, same_trans, c.append.ensures.capacity, c.look.ensures.0, c.look.ensures.1, c.if-putter-eq0.true)
 
 pub takes-smaller-in-Taken : goal.takes-smaller-in-Taken
 takes-smaller-in-Taken g c =
@@ -105,8 +64,7 @@ takes-smaller-in-Taken g c =
     let more = brought g t n s.phrase in
     let room = few g t n s.within in
     let long : length c.append.new.items.items ≡ length c.takes.items.items + n = omega (arith, ap length list, length-append c.takes.items.items (take n c.take_into.new.into), room.0) in
-    subst (λ (z : Bool). c.args.limit - (length c.append.new.items.items + c.takes.empty + (if z then 1 else 0)) < c.args.limit - (length c.takes.items.items + c.takes.empty + (if z then 1 else 0))) (sym c.takes-test.true)
-    (omega (arith, long, more.0, room.1))
+    grind arith
 
 pub takes-preserved-in-Empty : goal.takes-preserved-in-Empty
 takes-preserved-in-Empty g c =
@@ -160,12 +118,4 @@ returns-in_err-append-in-Taken-clause-fault g c =
     let more = brought g t n s.phrase in
     let room = few g t n s.within in
     let long : length (c.takes.items.items ++ take n c.take_into.new.into) ≡ length c.takes.items.items + n = omega (arith, length-append c.takes.items.items (take n c.take_into.new.into), room.0) in
-    if_err c.from_residual.result (HasTakenMore b.ring.shape b.list c.args.limit (vec_capacity c.args.items.now))
-    (record {
-      taken = c.takes.items.items ++ take n c.take_into.new.into;
-      made = c.takes.made + 1;
-      empty = c.takes.empty;
-      takes = more.1;
-      most = omega (arith, long, room.1);
-      more = omega (arith, long, room.0, i.5, c.in_err-append-in-Taken.ensures.full, c.takes.items.ok);
-    })
+    grind (arith, if_err, c.in_err-append-in-Taken.ensures.full)

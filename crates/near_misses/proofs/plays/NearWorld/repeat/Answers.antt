@@ -5,20 +5,7 @@ use Rattle.near_misses.specs.NearSides.{NearHas}
 use Rattle.near_misses.proofs.plays.NearWorld.repeat.Goals as goal
 
 pub loop-init : goal.loop-init
-loop-init g c = record {
-  ready = c.requires;
-  shape = refl;
-  has = λ a letters oracle has. subst (λ (t : List Side). NearHas g.T.Store.items g.I.Store.items a t oracle c.args.self.now) (sym (append-nil letters)) has;
-  event_room = refl;
-  told_room = refl;
-  item_room = refl;
-  few_events = omega arith;
-  few_told = omega arith;
-  few_items = omega arith;
-}
-
-pub step-requires : goal.step-requires
-step-requires g c = c.loop.invariant.ready
+loop-init g c = grind (arith, append-nil, c.requires)
 
 pub loop-preserved : goal.loop-preserved
 loop-preserved g c =

@@ -13,15 +13,7 @@ returns-in_ok-tell-in-P-clause-ready g c =
     let w = c.args.self.now in
     let asked : NearAsked = record { miss = w.putter.miss; items = length w.putter.items.now; takes = 0; closes = w.putter.closes; shape = w.putter.shape } in
     let moves = c.in_ok-event-in-P.ensures.moves asked (refl, refl, refl) in
-    let opened = both_open open_changes asked P w.memory.events (stands_of w) _ _ _ refl moves c.requires.put_open c.requires.take_open in
-    record {
-      put_shape = c.in_ok-event-in-P.ensures.side.1;
-      take_shape = c.requires.take_shape ∙ sym c.in_ok-event-in-P.ensures.shape;
-      put_open = opened.0;
-      take_open = opened.1;
-      put_due = c.in_ok-event-in-P.ensures.due;
-      take_due = other_due _ open_changes asked P w.memory.events _ _ _ _ moves c.requires.take_due;
-    }
+    grind (arith, other_due, open_changes, c.in_ok-event-in-P.ensures.side.1, c.requires.take_shape, c.in_ok-event-in-P.ensures.shape, c.in_ok-event-in-P.ensures.due, c.requires.take_due)
 
 pub returns-in_ok-tell-in-P-clause-has : goal.returns-in_ok-tell-in-P-clause-has
 returns-in_ok-tell-in-P-clause-has g c = rw c.in-P.is (λ asked letters oracle has.
@@ -34,15 +26,7 @@ returns-in_ok-keep-in-C-clause-ready g c =
     let w = c.args.self.now in
     let asked : NearAsked = record { miss = w.taker.miss; items = 0; takes = w.taker.takes; closes = false; shape = w.taker.shape } in
     let moves = c.in_ok-event-in-C.ensures.moves asked (refl, refl, refl) in
-    let opened = both_open open_changes asked C w.memory.events (stands_of w) _ _ _ refl moves c.requires.put_open c.requires.take_open in
-    record {
-      put_shape = c.requires.put_shape ∙ sym c.in_ok-event-in-C.ensures.shape;
-      take_shape = c.in_ok-event-in-C.ensures.side.1;
-      put_open = opened.0;
-      take_open = opened.1;
-      put_due = other_due _ open_changes asked C w.memory.events _ _ _ _ moves c.requires.put_due;
-      take_due = c.in_ok-event-in-C.ensures.due;
-    }
+    grind (arith, other_due, open_changes, c.requires.put_shape, c.in_ok-event-in-C.ensures.shape, c.in_ok-event-in-C.ensures.side.1, c.requires.put_due, c.in_ok-event-in-C.ensures.due)
 
 pub returns-in_ok-keep-in-C-clause-has : goal.returns-in_ok-keep-in-C-clause-has
 returns-in_ok-keep-in-C-clause-has g c = rw c.in-C.is (λ asked letters oracle has.
@@ -62,8 +46,5 @@ returns-in_ok-keep-in-C-clause-few g c =
     let w = c.args.self.now in
     let asked : NearAsked = record { miss = w.taker.miss; items = 0; takes = w.taker.takes; closes = false; shape = w.taker.shape } in
     let held = moves_held asked w.memory.events (take_stand w.taker) c.in_ok-event-in-C.event _ _ (c.in_ok-event-in-C.ensures.moves asked (refl, refl, refl)) in
-    let longer = ap length c.in_ok-keep-in-C.ensures.taken ∙ length-append (g.I.Store.items w.taken) _ in (
-      c.in_ok-event-in-C.ensures.few,
-      c.in_ok-tell-in-C.ensures.few,
-      omega (arith, held, longer, ap (λ l. length (items_told c.in_ok-event-in-C.event l)) c.items.ensures),
-    )
+    let longer = ap length c.in_ok-keep-in-C.ensures.taken ∙ length-append (g.I.Store.items w.taken) _ in
+    grind (arith, c.in_ok-event-in-C.ensures.few, c.in_ok-tell-in-C.ensures.few, c.items.ensures)
