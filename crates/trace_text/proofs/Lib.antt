@@ -1,3 +1,4 @@
+pub mod Common
 pub mod TraceFields
 pub mod TraceLines
 pub mod TraceLemmas

@@ -4,11 +4,8 @@ use Rattle.std.specs.Prelude.{◌==◌, codes, decimal, nat_lt}
 use Rattle.std.specs.List.{list_all}
 use Rattle.std.proofs.lemmas.Fmt.{length-decimal-le}
 use Rattle.std.proofs.lemmas.List.Elements.{All-append, All-head, All-tail}
-use Rattle.bits_core.specs.declared.events.Side.{Side}
-use Rattle.bits_core.specs.declared.events.Bit.{Bit}
+use Rattle.trace_text.proofs.Common.{Side, Bit, Act, Event}
 use Rattle.bits_core.specs.declared.events.Bit.TheVariants.{S, R, X, Cell}
-use Rattle.bits_core.specs.declared.events.Act.{Act}
-use Rattle.bits_core.specs.declared.events.Event.{Event}
 use Rattle.trace_text.specs.TraceText.{side_text, act_text, bit_text, value_text, batch_text, batches_text, event_line, shape_line}
 use Rattle.line_parts.specs.LineEnds.{HasNoFeed, EndsAtFeed}
 use Rattle.line_parts.proofs.LineFeeds.{IsOther, feed_nowhere, feed_once, no_feed_digits, no_feed_text}
@@ -22,14 +19,11 @@ record IsPart (text : List ℕ) (most : ℕ) : Type 0 where
   pub feedless : HasNoFeed text
   pub short : length text ≤ most
 
-number_part : (k n : ℕ) → 0 < k → n < 10 ^ k → n < 2 ^ 64 → IsPart (decimal n) k
-number_part k n some below small = record { feedless = no_feed_digits n small; short = length-decimal-le k n some below small }
-
 index_part : (n : ℕ) → n < 256 → IsPart (decimal n) 3
-index_part n small = number_part 3 n (omega arith) (omega arith) (omega arith)
+index_part n small = grind (arith, no_feed_digits, length-decimal-le)
 
 short_part : (n : ℕ) → n < 10000 → IsPart (decimal n) 4
-short_part n small = number_part 4 n (omega arith) (omega arith) (omega arith)
+short_part n small = grind (arith, no_feed_digits, length-decimal-le)
 
 text_part : (text : List ℕ) (most : ℕ) → list_all (λ b. nat_lt 10 b) text ≡ true → length text ≤ most → IsPart text most
 text_part text most other short = record { feedless = no_feed_text text other; short = short }
@@ -67,10 +61,7 @@ value_part a = grind arith
 pub event_line_ends : (e : Event) → HasIndices e.bit → IsShortLine (event_line e)
 event_line_ends e small =
     let front : List ℕ = side_text e.side ++ (act_text e.act ++ (bit_text e.bit ++ value_text e.act)) in
-    let part : IsPart front (2 + (6 + (8 + 2))) =
-    part_then (side_text e.side) (act_text e.act ++ (bit_text e.bit ++ value_text e.act)) 2 (6 + (8 + 2)) (side_part e.side)
-    (part_then (act_text e.act) (bit_text e.bit ++ value_text e.act) 6 (8 + 2) (act_part e.act)
-    (part_then (bit_text e.bit) (value_text e.act) 8 2 (bit_part e.bit small) (value_part e.act))) in
+    let part : IsPart front (2 + (6 + (8 + 2))) = search (arith, part_then, side_part, act_part, bit_part, value_part) in
     let whole : front ++ 10 ∷ [] ≡ event_line e = simp append_assoc in
     subst IsShortLine whole (line_of front (2 + (6 + (8 + 2))) part (omega arith))
 
@@ -101,12 +92,9 @@ shape_line_ends c m w g h small_c small_m small_w small_g small_h =
     let from_modulus : List ℕ = decimal m ++ (codes " " ++ from_width) in
     let from_capacity : List ℕ = decimal c ++ (codes " " ++ from_modulus) in
     let width_is : IsPart from_width (4 + 10) = part_then (decimal w) (batches_text g h) 4 10 (short_part w small_w) (batches_part g h small_g small_h) in
-    let modulus_is : IsPart from_modulus (4 + (1 + (4 + 10))) =
-    part_then (decimal m) (codes " " ++ from_width) 4 (1 + (4 + 10)) (short_part m small_m) (part_then (codes " ") from_width 1 (4 + 10) space width_is) in
-    let capacity_is : IsPart from_capacity (4 + (1 + (4 + (1 + (4 + 10))))) =
-    part_then (decimal c) (codes " " ++ from_modulus) 4 (1 + (4 + (1 + (4 + 10)))) (short_part c small_c) (part_then (codes " ") from_modulus 1 (4 + (1 + (4 + 10))) space modulus_is) in
-    let all : IsPart (codes "shape " ++ from_capacity) (6 + (4 + (1 + (4 + (1 + (4 + 10)))))) =
-    part_then (codes "shape ") from_capacity 6 (4 + (1 + (4 + (1 + (4 + 10))))) (text_part (codes "shape ") 6 refl (omega arith)) capacity_is in
+    let modulus_is : IsPart from_modulus (4 + (1 + (4 + 10))) = search (arith, part_then, short_part) in
+    let capacity_is : IsPart from_capacity (4 + (1 + (4 + (1 + (4 + 10))))) = search (arith, part_then, short_part) in
+    let all : IsPart (codes "shape " ++ from_capacity) (6 + (4 + (1 + (4 + (1 + (4 + 10)))))) = grind (arith, part_then, text_part) in
     let whole : (codes "shape " ++ from_capacity) ++ 10 ∷ [] ≡ shape_line c m w g h = simp append_assoc in
     subst IsShortLine whole (line_of (codes "shape " ++ from_capacity) (6 + (4 + (1 + (4 + (1 + (4 + 10)))))) all (omega arith))
 

@@ -1,13 +1,10 @@
 -- The parts of a line: what is read is at the front, and what is there is read again.
 use Rattle.std.proofs.Common.{rules, ◌≡◌, ◌⊎◌, ℕ, ◌<◌, Bool, true, false, cond, Option, Some, None, List, [], ◌∷◌, ◌++◌, refl, ap, ◌∙◌, append_assoc, inl, inr, arith}
-use Rattle.std.specs.Prelude.{codes, decimal, ◌==◌}
+use Rattle.trace_text.proofs.Common.{codes, decimal, ◌==◌, Side, Bit, Act}
 use Rattle.std.proofs.lemmas.Bool.{eqb-true, ltb-true}
 use Rattle.std.proofs.lemmas.Bool.Decides.{nat_tests}
 use Rattle.std.proofs.lemmas.Option.{cond_some, none-some, same_Some}
-use Rattle.bits_core.specs.declared.events.Side.{Side}
-use Rattle.bits_core.specs.declared.events.Bit.{Bit}
 use Rattle.bits_core.specs.declared.events.Bit.TheVariants.{S, R, X, Cell}
-use Rattle.bits_core.specs.declared.events.Act.{Act}
 use Rattle.bits_core.specs.declared.events.Act.TheVariants.{ReadBegin, ReadEnd, WriteBegin, WriteEnd}
 use Rattle.trace_text.specs.declared.reading.ActWord.{ActWord}
 use Rattle.trace_text.specs.declared.reading.ActWord.TheVariants.{Read, Got, Write, Wrote}
@@ -39,9 +36,6 @@ named-begins {A} text v bytes x e = grind (arith, named-text)
 pub side_at-text : (bytes : List ℕ) (x : Side × List ℕ) → side_at bytes ≡ Some x → Begins side_text bytes x
 side_at-text bytes x e = grind arith
 
-pub side_at-again : (s : Side) (rest : List ℕ) → side_at (side_text s ++ rest) ≡ Some (s, rest)
-side_at-again s rest = grind arith
-
 -- the text of a word
 abbrev pub word_text : ActWord → List ℕ
 word_text Read = codes "read "
@@ -64,9 +58,6 @@ word_at-text bytes x e =
 
 pub word_at-again : (w : ActWord) (rest : List ℕ) → word_at (word_text w ++ rest) ≡ Some (w, rest)
 word_at-again w rest = grind arith
-
-digit_at-text : (bytes : List ℕ) (x : Bool × List ℕ) → digit_at bytes ≡ Some x → Begins digit_text bytes x
-digit_at-text bytes x e = grind arith
 
 -- ---- numbers
 
@@ -140,7 +131,7 @@ bit_at-again b rest h1 h2 = grind (arith, cell_at-again, index_at-again)
 -- an act goes with its word, and its value comes after the bit
 pub act_at-text : (w : ActWord) (bytes : List ℕ) (x : Act × List ℕ) → act_at w bytes ≡ Some x → (word_text w ≡ act_text x.0) × Begins value_text bytes x
 unfolding act_at
-act_at-text w bytes x h1 = search (rules, bind_some, digit_at-text, same_Some)
+act_at-text w bytes x h1 = search (rules, bind_some, same_Some)
 
 -- the word of an act
 abbrev pub word_of : Act → ActWord
@@ -155,7 +146,3 @@ act_at-again a rest = grind arith
 
 pub act_word : (a : Act) → act_text a ≡ word_text (word_of a)
 act_word a = grind arith
-
--- no digit follows the index of a bit
-pub value_ends : (a : Act) (rest : List ℕ) → EndsDigits (value_text a ++ (codes "\n" ++ rest))
-value_ends a rest = grind arith

@@ -2,15 +2,11 @@
 use Rattle.std.proofs.Common.{◌≡◌, ℕ, Option, Some, None, List, [], ◌∷◌, ◌++◌, length, take, get_or, ap, sym, subst, ◌∙◌, arith}
 use Rattle.std.proofs.Math.Seq.{take-append_seam, get_or-append_seam}
 use Rattle.std.proofs.lemmas.List.{append-nil, length-append}
-use Rattle.std.proofs.lemmas.Option.{none-some, same_Some}
+use Rattle.trace_text.proofs.Common.{none-some, same_Some, Event, Shape, TraceHearing, IsTraceText}
 use Rattle.bits_core.specs.declared.audits.BitAuditor.{BitAuditor}
 use Rattle.bits_core.specs.declared.faults.Kind.{Kind}
 use Rattle.bits_core.specs.declared.audits.Verdict.{Verdict}
-use Rattle.bits_core.specs.declared.events.Event.{Event}
-use Rattle.bits_core.specs.declared.shapes.Shape.{Shape}
-use Rattle.trace_text.specs.declared.trace_audits.TraceHearing.{TraceHearing}
 use Rattle.bits_core.specs.Audit.{IsFaultAfter, IsFirstFault, IsVerdict}
-use Rattle.trace_text.specs.Trace.{IsTraceText}
 use Rattle.trace_text.specs.TraceAudits.{BreaksAt, HasEnded, IsFoundSoFar}
 use Rattle.bits_core.proofs.StepLemmas.{EachMayFollow}
 use Rattle.bits_core.proofs.FaultLemmas.{IsFirstFault-at}
@@ -24,8 +20,7 @@ BreaksAt-first shape h place kind s =
     let before : take n all ≡ s.past = take-append_seam s.past (s.event ∷ s.later) in
     let here : get_or all n s.event ≡ s.event = get_or-append_seam s.past s.event s.later s.event in
     let steps : EachMayFollow shape (take n all) = subst (EachMayFollow shape) (sym before) (IsLawful-to shape s.past s.lawful) in
-    let fault : IsFaultAfter shape (take n all) (get_or all n s.event) kind =
-    subst (λ t. IsFaultAfter shape t (get_or all n s.event) kind) (sym before) (subst (λ e. IsFaultAfter shape s.past e kind) (sym here) s.fault) in
+    let fault : IsFaultAfter shape (take n all) (get_or all n s.event) kind = grind arith in
     let first : IsFirstFault shape all n kind = IsFirstFault-at shape all n s.event kind (omega (arith, length-append s.past (s.event ∷ s.later))) steps fault in
     subst (λ t. IsFirstFault shape t place kind) (sym s.parts) (subst (λ p. IsFirstFault shape all p kind) s.is_place first)
 

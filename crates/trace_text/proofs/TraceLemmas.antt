@@ -1,14 +1,9 @@
 -- Traces: what is at the front, one more event, and the one reading of a text.
 use Rattle.std.proofs.Common.{◌≡◌, ℕ, ◌+◌, ◌<◌, true, false, Some, None, List, [], ◌∷◌, ◌++◌, length, ap, sym, ◌∙◌, append_assoc, arith}
-use Rattle.std.specs.Prelude.{◌==◌}
+use Rattle.trace_text.proofs.Common.{◌==◌, none-some, same_Some, Event, Shape, AreOfShape, belongs, event_line, trace_text}
 use Rattle.std.proofs.lemmas.Bool.{false≢true}
 use Rattle.std.proofs.lemmas.List.{flat_map_more, length-append}
 use Rattle.std.proofs.lemmas.List.Elements.{All-push}
-use Rattle.std.proofs.lemmas.Option.{none-some, same_Some}
-use Rattle.bits_core.specs.declared.events.Event.{Event}
-use Rattle.bits_core.specs.declared.shapes.Shape.{Shape}
-use Rattle.bits_core.specs.Shape.{AreOfShape, belongs}
-use Rattle.trace_text.specs.TraceText.{event_line, trace_text}
 use Rattle.trace_text.specs.TraceReading.{event_at, shape_at}
 use Rattle.trace_text.specs.Trace.{BeginsWithEvent, IsTraceAndMore, HasNoEvent, HasShapeLine}
 use Rattle.trace_text.proofs.TraceLines.{event_at-again, small_indices, shape_at-again}
@@ -43,6 +38,3 @@ pub line_takes : (e : Event) (rest : List ℕ) → length rest < length (event_l
 line_takes e rest = grind (arith, length-append)
 
 -- ---- what stops a reading
-
-pub goes_on_at : (bytes : List ℕ) (shape : Shape) (events : List Event) (rest : List ℕ) → bytes ≡ trace_text shape events ++ rest → AreOfShape shape events → (length rest == 0) ≡ false → IsTraceAndMore bytes shape events rest
-goes_on_at bytes shape events rest text of_shape more = grind arith

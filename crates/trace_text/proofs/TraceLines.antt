@@ -1,36 +1,22 @@
 -- The lines of a trace: what is read is at the front, and what is there is read again.
 use Rattle.std.proofs.Common.{◌≡◌, ◌⊎◌, ℕ, ◌<◌, true, false, Some, List, ◌++◌, refl, ap, sym, subst, ◌∙◌, append_assoc, inl, inr, arith}
-use Rattle.std.specs.Prelude.{◌==◌, codes, decimal}
-use Rattle.std.proofs.lemmas.Bool.{eqb-true}
-use Rattle.std.proofs.lemmas.Option.{none-some, same_Some}
-use Rattle.bits_core.specs.declared.events.Side.{Side}
-use Rattle.bits_core.specs.declared.events.Bit.{Bit}
-use Rattle.bits_core.specs.declared.events.Act.{Act}
-use Rattle.bits_core.specs.declared.events.Event.{Event}
+use Rattle.trace_text.proofs.Common.{◌==◌, codes, decimal, eqb-true, none-some, same_Some, Side, Bit, Act, Event, Shape, ShapeFault, BeginsWithShape, HasBadShape, HasShapeLine}
 use Rattle.trace_text.specs.declared.reading.Numbers.{Numbers}
 use Rattle.trace_text.specs.declared.reading.ActWord.{ActWord}
-use Rattle.bits_core.specs.declared.shapes.Shape.{Shape}
-use Rattle.bits_core.specs.declared.faults.ShapeFault.{ShapeFault}
 use Rattle.bits_core.specs.Shape.{HasBatches, IsRefusedBatches, belongs}
-use Rattle.trace_text.specs.Trace.{BeginsWithShape, HasBadShape, HasShapeLine}
 use Rattle.trace_text.specs.TraceText.{side_text, act_text, bit_text, value_text, batch_text, batches_text, event_line, shape_line}
 use Rattle.trace_text.specs.TraceReading.{named, side_at, word_at, bit_at, act_at, short_number_at, take_batch_at, batches_at, event_at, shape_at}
 use Rattle.line_parts.specs.Parts.{after}
 use Rattle.line_parts.proofs.TextReading.{after-text}
 use Rattle.line_parts.proofs.NumberReading.{EndsDigits}
-use Rattle.trace_text.proofs.TraceFields.{Begins, HasIndices, bind_some, or_else_some, named-text, side_at-text, side_at-again, word_text, word_of, act_word, word_at-text, word_at-again, bit_at-text, bit_at-again, act_at-text, act_at-again, short_number_at-text, short_number_at-again, value_ends}
+use Rattle.trace_text.proofs.TraceFields.{Begins, HasIndices, bind_some, or_else_some, named-text, side_at-text, word_text, word_of, act_word, word_at-text, word_at-again, bit_at-text, bit_at-again, act_at-text, act_at-again, short_number_at-text, short_number_at-again}
 
 -- ---- the line of an event
-
--- an event's line and the bytes after it, part by part
-parts_of_event : (s : Side) (b : Bit) (a : Act) (rest : List ℕ)
-    → event_line (record { side = s; bit = b; act = a }) ++ rest ≡ side_text s ++ (act_text a ++ (bit_text b ++ (value_text a ++ (codes "\n" ++ rest))))
-parts_of_event s b a rest = simp append_assoc
 
 event_joined : (bytes r1 r2 r3 r4 rest : List ℕ) (s : Side) (w : ActWord) (b : Bit) (a : Act)
     → bytes ≡ side_text s ++ r1 → r1 ≡ word_text w ++ r2 → r2 ≡ bit_text b ++ r3 → (word_text w ≡ act_text a) × (r3 ≡ value_text a ++ r4) → r4 ≡ codes "\n" ++ rest
     → bytes ≡ event_line (record { side = s; bit = b; act = a }) ++ rest
-event_joined bytes r1 r2 r3 r4 rest s w b a e1 e2 e3 e4 e5 = grind (arith, parts_of_event)
+event_joined bytes r1 r2 r3 r4 rest s w b a e1 e2 e3 e4 e5 = grind (arith, append_assoc)
 
 pub event_at-text : (bytes : List ℕ) (x : Event × List ℕ) → event_at bytes ≡ Some x → Begins event_line bytes x
 unfolding event_at
@@ -47,7 +33,7 @@ event_at-text bytes x e =
 
 pub event_at-again : (e : Event) (rest : List ℕ) → HasIndices e.bit → event_at (event_line e ++ rest) ≡ Some (e, rest)
 unfolding event_at
-event_at-again e rest small = grind (arith, act_at-again, act_word, bit_at-again, parts_of_event, side_at-again, value_ends, word_at-again, word_of, word_text)
+event_at-again e rest small = grind (arith, act_at-again, act_word, bit_at-again, append_assoc, word_at-again, word_of, word_text)
 
 -- the indices of a shape's bits are below 256
 pub small_indices : (shape : Shape) (b : Bit) → belongs shape b ≡ true → HasIndices b
@@ -139,14 +125,10 @@ width_ends : (batch take_batch : ℕ) (rest : List ℕ) → EndsDigits (batches_
 unfolding batch_text batches_text
 width_ends batch take_batch rest = grind arith
 
-parts_of_shape : (capacity modulus width batch take_batch : ℕ) (rest : List ℕ)
-    → shape_line capacity modulus width batch take_batch ++ rest ≡ codes "shape " ++ (decimal capacity ++ (codes " " ++ (decimal modulus ++ (codes " " ++ (decimal width ++ batches_end batch take_batch rest)))))
-parts_of_shape capacity modulus width batch take_batch rest = simp append_assoc
-
 shape_joined : (bytes r1 r2 r3 r4 r5 r6 rest : List ℕ) (capacity modulus width batch take_batch : ℕ)
     → bytes ≡ codes "shape " ++ r1 → r1 ≡ decimal capacity ++ r2 → r2 ≡ codes " " ++ r3 → r3 ≡ decimal modulus ++ r4 → r4 ≡ codes " " ++ r5 → r5 ≡ decimal width ++ r6 → r6 ≡ batches_end batch take_batch rest
     → bytes ≡ shape_line capacity modulus width batch take_batch ++ rest
-shape_joined bytes r1 r2 r3 r4 r5 r6 rest capacity modulus width batch take_batch e1 e2 e3 e4 e5 e6 e7 = grind (arith, parts_of_shape)
+shape_joined bytes r1 r2 r3 r4 r5 r6 rest capacity modulus width batch take_batch e1 e2 e3 e4 e5 e6 e7 = grind (arith, append_assoc)
 
 -- the line of numbers of at most four digits
 pub record BeginsShape (bytes : List ℕ) (x : Numbers × List ℕ) : Type 0 where
@@ -185,7 +167,7 @@ shape_at-text bytes x e =
 pub shape_at-again : (capacity modulus width batch take_batch : ℕ) (rest : List ℕ) → capacity < 10000 → modulus < 10000 → width < 10000 → batch < 10000 → take_batch < 10000
     → shape_at (shape_line capacity modulus width batch take_batch ++ rest) ≡ Some (record { capacity = capacity; modulus = modulus; width = width; batch = batch; take_batch = take_batch }, rest)
 unfolding shape_at
-shape_at-again capacity modulus width batch take_batch rest short_capacity short_modulus short_width short_batch short_take_batch = grind (arith, batches_at-again, parts_of_shape, short_number_at-again, width_ends)
+shape_at-again capacity modulus width batch take_batch rest short_capacity short_modulus short_width short_batch short_take_batch = grind (arith, batches_at-again, append_assoc, short_number_at-again, width_ends)
 
 -- the numbers of a line represent those of a shape
 pub begins_numbers : (bytes rest : List ℕ) (n : Numbers) (shape : Shape) → BeginsShape bytes (n, rest) → HasBatches n.capacity n.modulus n.width n.batch n.take_batch shape → BeginsWithShape bytes shape rest

@@ -3,15 +3,10 @@ use Rattle.std.proofs.Common.{◌≡◌, ◌⊎◌, ◌≢◌, ℕ, suc, ◌+◌
 use Rattle.std.specs.Prelude.{IfOk, IfErr, MatchResult}
 use Rattle.std.specs.List.{flat_map}
 use Rattle.std.proofs.lemmas.List.{append-nil, length-append, take_all}
-use Rattle.std.proofs.lemmas.Option.{same_Some}
-use Rattle.bits_core.specs.declared.events.Event.{Event}
-use Rattle.bits_core.specs.declared.shapes.Shape.{Shape}
-use Rattle.bits_core.specs.declared.faults.ShapeFault.{ShapeFault}
+use Rattle.trace_text.proofs.Common.{same_Some, Event, Shape, ShapeFault, TraceFault, AreOfShape, batch_of, belongs, capacity_of, modulus_of, take_batch_of, width_of, event_line, shape_line}
+use Rattle.trace_text.proofs.Common.{trace_text}
 use Rattle.bits_core.proofs.ShapeLemmas.{not_refused, one_refusal, same_shape}
-use Rattle.trace_text.specs.declared.faults.TraceFault.{TraceFault}
 use Rattle.trace_text.specs.declared.faults.TraceFault.TheVariants.{BadShape, BadLine, TooLong, OutOfMemory}
-use Rattle.bits_core.specs.Shape.{AreOfShape, batch_of, belongs, capacity_of, modulus_of, take_batch_of, width_of}
-use Rattle.trace_text.specs.TraceText.{event_line, shape_line, trace_text}
 use Rattle.trace_text.specs.TraceReading.{event_at}
 use Rattle.trace_text.specs.Trace.{BeginsWithMore, BeginsWithShape, IsTraceAndMore, HasMore, HasNoEvent, HasBadLine, HasBadShape, HasShapeLine, IsTooLong, IsTrace, IsTraceFault, IsTraceText}
 use Rattle.trace_text.specs.Laws.{RefusedIsNoText, TraceIsText}

@@ -4,18 +4,11 @@ use Rattle.std.specs.List.{flat_map}
 use Rattle.std.specs.Prelude.{codes, MatchOption}
 use Rattle.std.proofs.lemmas.List.{append-nil, flat_map_more}
 use Rattle.std.proofs.lemmas.List.Elements.{All-append, All-nil}
-use Rattle.std.proofs.lemmas.Option.{none-some, same_Some}
-use Rattle.bits_core.specs.declared.events.Event.{Event}
-use Rattle.bits_core.specs.declared.shapes.Shape.{Shape}
-use Rattle.bits_core.specs.declared.faults.ShapeFault.{ShapeFault}
-use Rattle.trace_text.specs.declared.trace_audits.TraceHearing.{TraceHearing}
-use Rattle.trace_text.specs.declared.faults.TraceFault.{TraceFault}
+use Rattle.trace_text.proofs.Common.{none-some, same_Some, Event, Shape, ShapeFault, TraceHearing, TraceFault, batch_of, belongs, capacity_of, modulus_of, take_batch_of, width_of, HasBadShape}
+use Rattle.trace_text.proofs.Common.{HasNoEvent, IsTraceText, RefusesTraceText, event_line, shape_line}
 use Rattle.trace_text.specs.declared.faults.TraceFault.TheVariants.{BadShape, BadLine, TooLong, OutOfMemory}
-use Rattle.bits_core.specs.Shape.{batch_of, belongs, capacity_of, modulus_of, take_batch_of, width_of}
-use Rattle.trace_text.specs.Trace.{HasBadShape, HasNoEvent, IsTraceText, RefusesTraceText}
 use Rattle.trace_text.specs.TraceAudits.{BeginsWithNoLine, EndedLines, HasEnded, HeardTrace, IsFaultBehind}
 use Rattle.line_parts.specs.LineEnds.{HasNoFeed, EndsAtFeed}
-use Rattle.trace_text.specs.TraceText.{event_line, shape_line}
 use Rattle.trace_text.proofs.LineEnds.{event_line_ends, shape_line_ends, line_before_more, too_long_a_line, no_line_ended}
 use Rattle.line_parts.proofs.LineFeeds.{feed_nowhere, feed_once}
 use Rattle.trace_text.proofs.TraceLemmas.{AreOfShape-push, line_takes}
@@ -27,11 +20,8 @@ many_bytes : (events : List Event) → length events ≤ length (flat_map event_
 many_bytes [] = omega arith
 many_bytes (e ∷ events) = omega (arith, many_bytes events, line_takes e (flat_map event_line events))
 
-some_byte : (t : List ℕ) → 0 < length (codes "shape " ++ t)
-some_byte t = omega arith
-
 shape_bytes : (c m w g h : ℕ) → 0 < length (shape_line c m w g h)
-shape_bytes c m w g h = some_byte _
+shape_bytes c m w g h = grind arith
 
 pub text_bytes : (text : List ℕ) (shape : Shape) (events : List Event) → IsTraceText text shape events → length events + 1 ≤ length text
 text_bytes text shape events is = grind (arith, length-append, many_bytes, shape_bytes)
@@ -138,14 +128,10 @@ next_ended (Some hearing) before after e text is ended inside heard =
     let same : before ≡ hearing = same_Some before hearing (sym is) in
     let shape : Shape = ended.shape in
     let line : List ℕ = shape_line (capacity_of shape) (modulus_of shape) (width_of shape) (batch_of shape) (take_batch_of shape) in
-    let of : before.shape ≡ shape = ap (λ (x : TraceHearing). x.shape) same ∙ ended.heard.of_shape in
     record {
       shape = shape;
       events = ended.events ++ e ∷ [];
-      is = record {
-        text = ap (λ (t : List ℕ). t ++ event_line e) ended.is.text ∙ flat_map_more event_line line ended.events e;
-        of_shape = AreOfShape-push shape ended.events e ended.is.of_shape (subst (λ (s : Shape). belongs s e.bit ≡ true) of inside);
-      };
+      is = grind (arith, flat_map_more, AreOfShape-push);
       heard = heard shape ended.events (subst (λ (x : TraceHearing). HeardTrace x shape ended.events) (sym same) ended.heard);
     }
 

@@ -3,13 +3,8 @@ use Rattle.std.proofs.Common.{rules, ◌≡◌, ◌⊎◌, ℕ, zero, suc, ◌+�
 use Rattle.std.proofs.lemmas.Bool.{cases_lt}
 use Rattle.std.proofs.lemmas.List.{append-nil}
 use Rattle.trace_text.specs.declared.traces.TheConstants.{EVENT_LIMIT}
-use Rattle.bits_core.specs.declared.events.Event.{Event}
+use Rattle.trace_text.proofs.Common.{Event, Shape, TraceFault, BadShape, BadLine, TooLong, AreOfShape, belongs, event_line, shape_line, trace_text}
 use Rattle.trace_text.specs.declared.reading.Numbers.{Numbers}
-use Rattle.bits_core.specs.declared.shapes.Shape.{Shape}
-use Rattle.trace_text.specs.declared.faults.TraceFault.{TraceFault}
-use Rattle.trace_text.specs.declared.faults.TraceFault.TheVariants.{BadShape, BadLine, TooLong}
-use Rattle.bits_core.specs.Shape.{AreOfShape, belongs}
-use Rattle.trace_text.specs.TraceText.{event_line, shape_line, trace_text}
 use Rattle.trace_text.specs.TraceReading.{event_at, shape_at}
 use Rattle.trace_text.specs.Trace.{HasNoEvent, IsTraceAndMore, IsTrace, IsTraceFault}
 use Rattle.trace_text.specs.Laws.{TraceOrFault}

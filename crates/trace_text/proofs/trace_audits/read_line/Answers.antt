@@ -1,11 +1,6 @@
 use Rattle.std.proofs.Common.{◌≡◌, ◌++◌, Option, List, ℕ, refl, sym, subst, rules}
-use Rattle.trace_text.specs.Trace.{RefusesTraceText}
+use Rattle.trace_text.proofs.Common.{RefusesTraceText, batch_of, capacity_of, modulus_of, take_batch_of, width_of, event_line, shape_line, TraceHearing, TraceFault, BadLine, TooLong}
 use Rattle.trace_text.specs.TraceAudits.{BeginsWithNoLine, HasEnded}
-use Rattle.bits_core.specs.Shape.{batch_of, capacity_of, modulus_of, take_batch_of, width_of}
-use Rattle.trace_text.specs.TraceText.{event_line, shape_line}
-use Rattle.trace_text.specs.declared.trace_audits.TraceHearing.{TraceHearing}
-use Rattle.trace_text.specs.declared.faults.TraceFault.{TraceFault}
-use Rattle.trace_text.specs.declared.faults.TraceFault.TheVariants.{BadLine, TooLong}
 use Rattle.trace_text.proofs.TraceTexts.{bad_shape_more, behind_ended, event_ends, first_ended, next_ended, no_line_refused, nothing_ended, shape_ends, too_many}
 use Rattle.trace_text.proofs.trace_audits.read_line.Goals as goal
 
@@ -29,9 +24,7 @@ returns-in_err-unread-in-Ok-None-clause-refused c =
 pub returns-in_err-hear-in-Some-read_event-clause-refused : goal.returns-in_err-hear-in-Some-read_event-clause-refused
 returns-in_err-hear-in-Some-read_event-clause-refused c =
     let r = c.in_err-hear-in-Some-read_event.ensures.refused in
-    let refused = refused_as c.args.hearing.now c.args.bytes.now TooLong c.in_err-hear-in-Some-read_event.field-0.0 r.0 (λ text more ended.
-    too_many c.args.hearing.now c.in-Some.heard text (c.args.bytes.now ++ more) c.in-Some.is r.1 ended) in
-    search (rules, refused)
+    search (rules, refused_as, too_many, c.in-Some.is)
 
 pub returns-in_err-unread-in-None-read_event-clause-refused : goal.returns-in_err-unread-in-None-read_event-clause-refused
 returns-in_err-unread-in-None-read_event-clause-refused c =

@@ -1,6 +1,5 @@
 use Rattle.std.proofs.Common.{◌∙◌, ◌++◌, List, ℕ, ap, sym, subst, append_assoc, rules}
-use Rattle.trace_text.specs.Trace.{RefusesTraceText}
-use Rattle.trace_text.specs.TraceAudits.{HasEnded}
+use Rattle.trace_text.proofs.Common.{RefusesTraceText, HasEnded}
 use Rattle.trace_text.proofs.TraceTexts.{behind_it}
 use Rattle.trace_text.proofs.trace_audits.read_lines.Goals as goal
 

@@ -1,12 +1,7 @@
 use Rattle.std.proofs.Common.{◌≡◌, ℕ, ◌++◌, ◌∷◌, [], true, List, length, inr, refl, ap, subst, sym, ◌∙◌, append-nil, arith, rules}
-use Rattle.std.specs.Prelude.{◌==◌}
-use Rattle.std.proofs.lemmas.Bool.{eqb-true}
-use Rattle.bits_core.specs.declared.events.Event.{Event}
-use Rattle.bits_core.specs.declared.shapes.Shape.{Shape}
-use Rattle.bits_core.specs.Shape.{AreOfShape, batch_of, capacity_of, modulus_of, take_batch_of, width_of}
-use Rattle.trace_text.specs.TraceText.{shape_line, trace_text}
+use Rattle.trace_text.proofs.Common.{◌==◌, eqb-true, Event, Shape, AreOfShape, batch_of, capacity_of, modulus_of, take_batch_of, width_of, shape_line, trace_text}
 use Rattle.trace_text.specs.Trace.{BeginsWithShape, HasMore}
-use Rattle.trace_text.proofs.TraceLemmas.{AreOfShape-push, goes_on_at, length-push, line_takes, text_more}
+use Rattle.trace_text.proofs.TraceLemmas.{AreOfShape-push, length-push, line_takes, text_more}
 use Rattle.trace_text.proofs.traces.read_lines.Goals as goal
 
 no_events : (shape : Shape) (bytes rest : List ℕ) → BeginsWithShape bytes shape rest → bytes ≡ trace_text shape [] ++ rest
@@ -36,7 +31,7 @@ returns-then-count-eq-EVENT_LIMIT-clause-refused g c =
       shape = c.in_ok-shape.shape;
       events = events;
       rest = c.loop-rest.rest.now;
-      goes_on = goes_on_at c.args.bytes.now c.in_ok-shape.shape events c.loop-rest.rest.now l.text l.of_shape (sym c.loop-rest-test.ensures);
+      goes_on = grind (arith, c.loop-rest-test.ensures);
       full = omega (arith, ap length c.as_slice-count.ensures, c.if-count-eq-EVENT_LIMIT.true);
     })
 
@@ -48,7 +43,7 @@ returns-in_default-clause-refused g c =
       shape = c.in_ok-shape.shape;
       events = events;
       rest = c.loop-rest.rest.now;
-      goes_on = goes_on_at c.args.bytes.now c.in_ok-shape.shape events c.loop-rest.rest.now l.text l.of_shape (sym c.loop-rest-test.ensures);
+      goes_on = grind (arith, c.loop-rest-test.ensures);
       room = omega (arith, l.within, ap length c.as_slice-count.ensures, c.if-count-eq-EVENT_LIMIT.false);
       no_event = c.in_default.ensures;
       number = omega (arith, ap length c.as_slice-count.ensures);

@@ -1,7 +1,6 @@
 use Rattle.std.proofs.Common.{◌≡◌, ◌≤◌, ◌++◌, length}
 use Rattle.trace_text.specs.declared.traces.TheConstants.{EVENT_LIMIT}
-use Rattle.bits_core.specs.Shape.{AreOfShape}
-use Rattle.trace_text.specs.TraceText.{trace_text}
+use Rattle.trace_text.proofs.Common.{AreOfShape, trace_text}
 use Rattle.trace_text.proofs.traces.read_lines.Given as goal
 
 -- what was read so far is the text of the events so far

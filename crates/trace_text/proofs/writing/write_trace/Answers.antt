@@ -1,8 +1,6 @@
 use Rattle.std.proofs.Common.{◌≡◌, ℕ, ◌+◌, ◌<◌, ◌++◌, List, length, get_or, take, ap, ◌∙◌, append-nil, arith}
 use Rattle.std.proofs.lemmas.List.{flat_map_more, take_all, take_more}
-use Rattle.bits_core.specs.declared.events.Event.{Event}
-use Rattle.bits_core.specs.declared.shapes.Shape.{Shape}
-use Rattle.trace_text.specs.TraceText.{event_line, trace_text}
+use Rattle.trace_text.proofs.Common.{Event, Shape, event_line, trace_text}
 use Rattle.trace_text.proofs.writing.write_trace.Goals as goal
 
 pub returns-clause-text : goal.returns-clause-text

@@ -1,6 +1,5 @@
 use Rattle.std.proofs.Common.{◌≢◌, ℕ, ◌++◌, List, ap, sym, subst, ◌∙◌, append_assoc, arith}
-use Rattle.std.proofs.lemmas.List.Elements.{All-append}
-use Rattle.line_parts.specs.LineEnds.{HasNoFeed}
+use Rattle.trace_text.proofs.Common.{All-append, HasNoFeed}
 use Rattle.trace_text.proofs.TraceTexts.{kept_refused}
 use Rattle.trace_text.proofs.trace_audits.TraceAudit.keep.Goals as goal
 

@@ -1,6 +1,5 @@
 use Rattle.std.proofs.Common.{◌++◌, ◌∙◌, List, ℕ, ap, sym, subst, append_assoc, rules}
-use Rattle.trace_text.specs.Trace.{RefusesTraceText}
-use Rattle.trace_text.specs.TraceAudits.{HasReadTrace}
+use Rattle.trace_text.proofs.Common.{RefusesTraceText, HasReadTrace}
 use Rattle.lists.proofs.Results.{then_err, then_ok}
 use Rattle.trace_text.proofs.TraceTexts.{behind_it, with_it}
 use Rattle.trace_text.proofs.trace_audits.TraceAudit.read.Goals as goal
@@ -10,10 +9,7 @@ returns-in_err-read_end-in-Some-clause-refused c =
     let end = c.in-Some.end.now in
     let rest = c.in-Some.rest.now in
     let e = c.in_err-read_end-in-Some.field-0.0 in
-    let refused : (bytes more : List ℕ) → HasReadTrace c.args.self.now bytes → RefusesTraceText (bytes ++ (c.args.piece.now ++ more)) e =
-    λ bytes more has.
-    subst (λ t. RefusesTraceText (bytes ++ t) e) (sym (append_assoc end rest more) ∙ ap (λ (t : List ℕ). t ++ more) (sym c.in-Some.ensures.1)) (c.in_err-read_end-in-Some.ensures.refused bytes (rest ++ more) has) in
-    search (rules, refused)
+    search (rules, append_assoc, c.in-Some.ensures.1, c.in_err-read_end-in-Some.ensures.refused)
 
 pub returns-in_ok-read_end-in-Some-clause-read : goal.returns-in_ok-read_end-in-Some-clause-read
 returns-in_ok-read_end-in-Some-clause-read c = then_ok c.read_on-in-Some.result c.read_on-in-Some.ensures.read (λ kept bytes has.

@@ -1,9 +1,7 @@
 use Rattle.std.proofs.Common.{◌≡◌, ◌≢◌, ◌∙◌, ◌++◌, ◌∷◌, [], List, ℕ, length, ap, sym, subst, append_assoc, length-append, arith, rules}
 use Rattle.std.proofs.lemmas.List.{append-nil}
 use Rattle.std.proofs.lemmas.List.Elements.{All-append, All-nil}
-use Rattle.trace_text.specs.Trace.{RefusesTraceText}
-use Rattle.trace_text.specs.TraceAudits.{HasEnded, HasReadTrace}
-use Rattle.line_parts.specs.LineEnds.{HasNoFeed}
+use Rattle.trace_text.proofs.Common.{RefusesTraceText, HasEnded, HasReadTrace, HasNoFeed}
 use Rattle.trace_text.proofs.TraceTexts.{kept_refused, whole_line}
 use Rattle.trace_text.proofs.trace_audits.TraceAudit.read_end.Goals as goal
 

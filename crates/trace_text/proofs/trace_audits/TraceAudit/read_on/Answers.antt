@@ -1,8 +1,7 @@
 use Rattle.std.proofs.Common.{arith, ◌≡◌, ◌++◌, [], List, ℕ, refl, subst}
 use Rattle.std.proofs.lemmas.List.{append-nil}
 use Rattle.trace_text.specs.declared.trace_audits.TraceAudit.{TraceAudit}
-use Rattle.trace_text.specs.Trace.{RefusesTraceText}
-use Rattle.trace_text.specs.TraceAudits.{HasEnded, HasReadTrace}
+use Rattle.trace_text.proofs.Common.{RefusesTraceText, HasEnded, HasReadTrace}
 use Rattle.lists.proofs.Results.{then_err, then_ok}
 use Rattle.trace_text.proofs.TraceTexts.{behind_it, with_it}
 use Rattle.trace_text.proofs.trace_audits.TraceAudit.read_on.Goals as goal

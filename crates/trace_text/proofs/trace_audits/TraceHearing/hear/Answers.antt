@@ -1,8 +1,6 @@
 use Rattle.std.proofs.Common.{arith, ◌≡◌, ℕ, ◌+◌, ◌++◌, ◌∷◌, [], List, sym, subst, append_assoc, refl}
 use Rattle.bits_core.specs.declared.faults.Kind.{Kind}
-use Rattle.bits_core.specs.declared.events.Event.{Event}
-use Rattle.bits_core.specs.declared.shapes.Shape.{Shape}
-use Rattle.trace_text.specs.declared.trace_audits.TraceHearing.{TraceHearing}
+use Rattle.trace_text.proofs.Common.{Event, Shape, TraceHearing}
 use Rattle.trace_text.specs.TraceAudits.{BreaksAt, HeardTrace, IsFoundSoFar}
 use Rattle.trace_text.proofs.TraceLemmas.{length-push}
 use Rattle.trace_text.proofs.trace_audits.TraceHearing.hear.Goals as goal
