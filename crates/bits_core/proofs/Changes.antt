@@ -1,18 +1,13 @@
 -- How what an event may do changes with one more event at the end.
 use Rattle.std.proofs.Common.{◌≡◌, ℕ, suc, Bool, true, false, ◌||◌, not, Option, Some, None, List, ◌∷◌, ◌++◌, refl, ap, ◌∙◌, arith, append-nil, []}
 use Rattle.std.proofs.lemmas.Bool.Decides.{nat_tests}
-use Rattle.std.specs.Prelude.{slice_get, is_some, if◌then◌else◌, unwrap_or}
+use Rattle.bits_core.proofs.Common.{slice_get, is_some, if◌then◌else◌, unwrap_or, or_parts, false≢true, Side, Bit, Act, Event, Shape, writer, doer, first_value, is_by, same_side, same_bit}
+use Rattle.bits_core.proofs.Common.{begun_access, write_of, value_written}
 use Rattle.std.specs.Option.{option_to_list}
-use Rattle.std.proofs.lemmas.Bool.{or_parts, false≢true}
-use Rattle.bits_core.specs.declared.events.Side.{Side}
-use Rattle.bits_core.specs.declared.events.Bit.{Bit}
-use Rattle.bits_core.specs.declared.events.Act.{Act}
-use Rattle.bits_core.specs.declared.events.Event.{Event}
-use Rattle.bits_core.specs.declared.shapes.Shape.{Shape}
-use Rattle.bits_core.specs.Bits.{writer, doer, first_value, is_by, same_side, same_bit, begun_access, write_of, value_written}
 use Rattle.bits_core.specs.History.{has_event, open_write, writes_begun, writes_ended, last_value, held, held_at_begin, is_overlapped, is_empty}
 use Rattle.bits_core.proofs.StepLemmas.{EachMayFollow}
-use Rattle.bits_core.proofs.Histories.{before_last-push, after_last-push, open_access-push, writes_begun-push, writes_ended-push, last_value-push}
+use Rattle.bits_core.proofs.Histories.{before_last-push, open_access-push, last_value-push, after_last-at, after_last-not}
+use Rattle.std.proofs.lemmas.List.Elements.{filter_map-append}
 
 -- the tests of two sides and of two bits
 pub same_side-same : (s : Side) → same_side s s ≡ true
@@ -37,26 +32,19 @@ AllByDoer-lawful shape h lawful = AllByDoer-each h (λ p e at. (lawful.each p e 
 not_written : (b c : Bit) (s : Side) (a : Act) → s ≡ doer c a → same_side (writer b) s ≡ false → value_written b (begun_access c a) ≡ None
 not_written b c s a by not_by = grind (arith, same_bit-true, same_side-same, false≢true)
 
-pub write_of-not : (b : Bit) (e : Event) → e.side ≡ doer e.bit e.act → is_by (writer b) e ≡ false → write_of b e ≡ None
-write_of-not b e by not_by = not_written b e.bit e.side e.act by not_by
-
 pub writes_begun-none : (b : Bit) (h : List Event) → AllByDoer h → has_event (writer b) h ≡ false → writes_begun b h ≡ []
 writes_begun-none b [] by none = refl
 writes_begun-none b (x ∷ h) by none =
-    grind (arith, or_parts, write_of-not, writes_begun-none b h by.1 (or_parts (is_by (writer b) x) (has_event (writer b) h) none).1)
+    grind (arith, or_parts, not_written, writes_begun-none b h by.1 (or_parts (is_by (writer b) x) (has_event (writer b) h) none).1)
 
 -- the writes of a bit that began are those that ended, and the one that is open
 pub writes_begun-parts : (b : Bit) (h : List Event) → AllByDoer h → writes_begun b h ≡ writes_ended b h ++ option_to_list (open_write b h)
 writes_begun-parts b [] by = refl
-writes_begun-parts b (x ∷ h) by = search (arith, writes_begun-none, write_of-not, writes_begun-parts b h by.1, writes_begun-parts b h by.1)
+writes_begun-parts b (x ∷ h) by = search (arith, writes_begun-none, not_written, writes_begun-parts b h by.1)
 
 -- the last of some values, with perhaps one more
 pub last_value-maybe : (v : Bool) (ws : List Bool) (o : Option Bool) → last_value v (ws ++ option_to_list o) ≡ unwrap_or o (last_value v ws)
 last_value-maybe v ws o = grind (arith, append-nil, last_value-push)
-
--- the last value of the writes that began is what the bit holds, or what is being written to it
-pub last_begun : (b : Bit) (h : List Event) → AllByDoer h → last_value (first_value b) (writes_begun b h) ≡ unwrap_or (open_write b h) (held b h)
-last_begun b h by = ap (last_value (first_value b)) (writes_begun-parts b h by) ∙ last_value-maybe (first_value b) (writes_ended b h) (open_write b h)
 
 -- a write that is open
 pub open_write-push : (b : Bit) (h : List Event) (e : Event) → open_write b (h ++ e ∷ []) ≡ (if is_by (writer b) e then write_of b e else open_write b h)
@@ -64,21 +52,11 @@ open_write-push b h e = grind (arith, open_access-push)
 
 -- what a bit holds changes when its writer has an event, to what was being written
 pub held-push : (b : Bit) (h : List Event) (e : Event) → AllByDoer h → held b (h ++ e ∷ []) ≡ (if is_by (writer b) e then unwrap_or (open_write b h) (held b h) else held b h)
-held-push b h e by = grind (arith, writes_ended-push, last_begun)
+held-push b h e by = grind (arith, before_last-push, writes_begun-parts, last_value-maybe)
 
 -- what it held when a side's last access began
 pub held_at_begin-push : (s : Side) (b : Bit) (h : List Event) (e : Event) → held_at_begin s b (h ++ e ∷ []) ≡ (if is_by s e then held b h else held_at_begin s b h)
 held_at_begin-push s b h e = grind (arith, before_last-push)
 
--- whether a write overlaps a side's last access: at its start if one is open, and from then on once one begins
-not_empty-maybe : {A : Type 0} (ws : List A) (o : Option A) → not (is_empty (ws ++ option_to_list o)) ≡ (not (is_empty ws) || is_some o)
-not_empty-maybe ws o = grind arith
-
-or_assoc : (x y z : Bool) → (x || (y || z)) ≡ ((x || y) || z)
-or_assoc x y z = grind arith
-
-or_false : (x : Bool) → (x || false) ≡ x
-or_false x = grind arith
-
 pub is_overlapped-push : (s : Side) (b : Bit) (h : List Event) (e : Event) → is_overlapped s b (h ++ e ∷ []) ≡ (if is_by s e then is_some (open_write b h) else is_overlapped s b h || is_some (write_of b e))
-is_overlapped-push s b h e = grind (arith, before_last-push, after_last-push, or_false, writes_begun-push, not_empty-maybe, or_assoc)
+is_overlapped-push s b h e = grind (arith, before_last-push, after_last-at, after_last-not, filter_map-append)

@@ -1,17 +1,10 @@
 -- Whether a write of a bit overlaps an access: decided by a search over the places.
 use Rattle.std.proofs.Common.{◌≡◌, ◌⊎◌, ℕ, zero, suc, ◌<◌, Bool, true, false, Some, None, List, length, inl, inr, refl, sym, subst, ◌∙◌, arith}
-use Rattle.std.specs.Prelude.{slice_get}
-use Rattle.std.proofs.lemmas.Bool.{cases_lt, false≢true}
+use Rattle.bits_core.proofs.Common.{slice_get, cases_lt, false≢true, Bit, Event, writer, is_by, begun_by, write_of}
 use Rattle.std.proofs.lemmas.Option.{none-some, same_Some, slice_get_within}
-use Rattle.bits_core.specs.declared.events.Bit.{Bit}
-use Rattle.bits_core.specs.declared.events.Event.{Event}
-use Rattle.bits_core.specs.Bits.{writer, is_by, begun_by, write_of}
 use Rattle.bits_core.specs.Intervals.{end_of, IsWrite, Overlap, HasOverlap}
 use Rattle.bits_core.proofs.Changes.{same_side-same}
 use Rattle.bits_core.proofs.IntervalLemmas.{same_side-true, value_written-from, value_written-to}
-
-decide_intervals : (start stop start' stop' : ℕ) → Overlap start stop start' stop' ⊎ ¬ Overlap start stop start' stop'
-decide_intervals start stop start' stop' = grind (arith, cases_lt)
 
 -- a write of the bit begins at a place
 abbrev BeginsWrite : List Event → Bit → ℕ → Type 0
@@ -41,7 +34,7 @@ abbrev OverlapsAt : List Event → Bit → ℕ → ℕ → ℕ → Type 0
 OverlapsAt h b start stop p = BeginsWrite h b p × Overlap start stop p (end_of (writer b) h p)
 
 decide_at : (h : List Event) (b : Bit) (start stop p : ℕ) → OverlapsAt h b start stop p ⊎ ¬ OverlapsAt h b start stop p
-decide_at h b start stop p = grind (arith, decide_write h b p, decide_intervals start stop p (end_of (writer b) h p))
+decide_at h b start stop p = grind (arith, decide_write h b p, cases_lt)
 
 -- among the first n places
 search_places : (h : List Event) (b : Bit) (start stop n : ℕ) → ((p : ℕ) × OverlapsAt h b start stop p) ⊎ ((p : ℕ) → p < n → ¬ OverlapsAt h b start stop p)

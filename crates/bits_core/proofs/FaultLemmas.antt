@@ -1,18 +1,13 @@
 -- What an audit finds.
 use Rattle.std.proofs.Common.{◌≡◌, ℕ, suc, Option, None, Some, IfSome, List, ◌<◌, ◌≤◌, sym, length, take, refl, subst, inl, inr, arith, get_or}
-use Rattle.std.proofs.lemmas.Bool.{cases_order}
-use Rattle.std.specs.Prelude.{slice_get}
+use Rattle.bits_core.proofs.Common.{cases_order, slice_get, take-take, Event, Shape, MayFollow}
 use Rattle.std.proofs.lemmas.Option.{slice_get-get_or, slice_get_within}
-use Rattle.std.proofs.lemmas.List.{take-take}
-use Rattle.bits_core.specs.declared.events.Event.{Event}
-use Rattle.bits_core.specs.declared.shapes.Shape.{Shape}
 use Rattle.bits_core.specs.declared.faults.Kind.{Kind}
 use Rattle.bits_core.specs.declared.audits.Verdict.{Verdict}
 use Rattle.bits_core.specs.declared.audits.Verdict.TheVariants.{Lawful, Fault}
 use Rattle.bits_core.specs.declared.reasons.Reason.{Reason}
 use Rattle.bits_core.specs.Audit.{IsFault, IsFirstFault, IsFaultAfter, IsVerdict}
 use Rattle.bits_core.specs.Reasons.{IsReasonBehind, HasReason}
-use Rattle.bits_core.specs.Steps.{MayFollow}
 use Rattle.bits_core.specs.Lawful.{IsLawfulEvent, IsLawful}
 use Rattle.bits_core.specs.Laws.{FaultBreaks}
 use Rattle.bits_core.proofs.StepLemmas.{EachMayFollow}
@@ -20,10 +15,6 @@ use Rattle.bits_core.proofs.Statements.{FaultIsFirst}
 use Rattle.bits_core.proofs.Places.{slice_get-take, slice_get-from_take}
 use Rattle.bits_core.proofs.OverlapLemmas.{IsByDoers, IsByDoers-below}
 use Rattle.bits_core.proofs.LawfulLemmas.{same_event, IsByDoers-steps, IsLawfulEvent-from, IsLawfulEvent-to, IsLawful-from, IsLawful-to, TakesTurn-from, TakesTurn-to, AnswersSafely-to}
-
--- the two forms of a fault
-pub IsFault-from : (shape : Shape) (h : List Event) (place : ℕ) (e : Event) (kind : Kind) → IsByDoers h place → slice_get h place ≡ Some e → IsFaultAfter shape (take place h) e kind → IsFault shape h place e kind
-IsFault-from shape h place e kind sides at fault = grind (arith, TakesTurn-to, TakesTurn-from, AnswersSafely-to)
 
 not_IsLawfulEvent : (shape : Shape) (h : List Event) (place : ℕ) (e : Event) (kind : Kind) → IsFault shape h place e kind → ¬ IsLawfulEvent shape h place e
 not_IsLawfulEvent shape h place e kind fault f = grind arith
@@ -39,7 +30,7 @@ IsFirstFault-at shape h i d kind within steps fault =
     record {
       event = get_or h i d;
       at_place = at;
-      fault = IsFault-from shape h i (get_or h i d) kind sides at fault;
+      fault = grind (arith, TakesTurn-to, TakesTurn-from, AnswersSafely-to);
       least = λ p e below k.
           let past : take p (take i h) ≡ take p h = take-take p i h (omega arith) in
           IsLawfulEvent-from shape h p e (IsByDoers-below h p i (omega arith) sides) k (subst (λ t. MayFollow shape t e) past (steps.each p e (slice_get-take h i p e k below)));
@@ -64,10 +55,7 @@ pub one_verdict : (shape : Shape) (h : List Event) (v w : Verdict) → IsVerdict
 one_verdict shape h Lawful w a b = grind (arith, not_IsLawful)
 one_verdict shape h (Fault p k) Lawful a b = absurd (not_IsLawful shape h p k a b)
 one_verdict shape h (Fault p k) (Fault q l) a b =
-    let place : p ≡ q = elim (cases_order p q) [
-      | inl same ↦ same
-      | inr other ↦ elim other [ inl below ↦ absurd (not_before shape h p q k l a b below) | inr above ↦ absurd (not_before shape h q p l k b a above) ]
-    ] in
+    let place : p ≡ q = grind (arith, cases_order, not_before) in
     grind (arith, same_event, one_kind)
 
 -- ---- up to a fault, and with it

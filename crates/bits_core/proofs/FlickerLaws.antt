@@ -2,17 +2,8 @@
 use Rattle.std.proofs.Common.{◌≡◌, ℕ, true, false, Option, Some, ◌≤◌, Bool, List, ◌∷◌, ◌++◌, length, take, refl, ap, sym, subst, ◌∙◌, [], None}
 use Rattle.std.specs.Prelude.{◌↔◌, if◌then◌else◌, slice_get}
 use Rattle.std.specs.Option.{option_map_or}
-use Rattle.std.proofs.lemmas.Bool.{false≢true}
-use Rattle.bits_core.specs.declared.events.Side.{Side}
-use Rattle.bits_core.specs.declared.events.Bit.{Bit}
-use Rattle.bits_core.specs.declared.events.Act.{Act}
-use Rattle.bits_core.specs.declared.events.Act.TheVariants.{ReadBegin, ReadEnd, WriteBegin, WriteEnd}
-use Rattle.bits_core.specs.declared.events.Access.TheVariants.{Read}
-use Rattle.bits_core.specs.declared.events.Event.{Event}
-use Rattle.bits_core.specs.declared.shapes.Shape.{Shape}
-use Rattle.bits_core.specs.History.{open_access, is_overlapped, held_at_begin}
+use Rattle.bits_core.proofs.Common.{false≢true, Side, Bit, Act, ReadBegin, ReadEnd, WriteBegin, WriteEnd, Read, Event, Shape, open_access, is_overlapped, held_at_begin, IsLawful}
 use Rattle.bits_core.specs.Intervals.{IsRead, IsOpenAt, end_of}
-use Rattle.bits_core.specs.Lawful.{IsLawful}
 use Rattle.bits_core.specs.Laws.{FlickerIsByInterval}
 use Rattle.bits_core.specs.Memory.{EndsOverlappedRead, is_flicker}
 use Rattle.bits_core.proofs.Changes.{same_side-same}

@@ -1,17 +1,8 @@
 -- How many reads that a write overlapped have ended, and what a memory keeps.
 use Rattle.std.proofs.Common.{◌≡◌, ℕ, zero, suc, ◌+◌, ◌<◌, ◌≤◌, Bool, false, Some, List, ◌∷◌, ◌++◌, length, refl, ap₂, sym, subst, add-zero, length-append, arith, []}
-use Rattle.std.specs.Prelude.{slice_get, if◌then◌else◌}
+use Rattle.bits_core.proofs.Common.{slice_get, if◌then◌else◌, Side, Bit, ReadEnd, Read, Event, Shape, open_access, is_overlapped, held_at_begin, IsLawful, MayFollow}
 use Rattle.std.proofs.lemmas.List.{take-append-le, take_at}
-use Rattle.bits_core.specs.declared.events.Side.{Side}
-use Rattle.bits_core.specs.declared.events.Bit.{Bit}
-use Rattle.bits_core.specs.declared.events.Act.TheVariants.{ReadEnd}
-use Rattle.bits_core.specs.declared.events.Access.TheVariants.{Read}
-use Rattle.bits_core.specs.declared.events.Event.{Event}
-use Rattle.bits_core.specs.declared.shapes.Shape.{Shape}
 use Rattle.bits_core.specs.Memory.{IsRecord, count_below, ends_read, flicker_count, is_flicker, is_flicker_at}
-use Rattle.bits_core.specs.History.{open_access, is_overlapped, held_at_begin}
-use Rattle.bits_core.specs.Lawful.{IsLawful}
-use Rattle.bits_core.specs.Steps.{MayFollow}
 use Rattle.bits_core.proofs.LawProofs.{lawful_by_one_more}
 use Rattle.bits_core.proofs.OpenAccesses.{IsAnswer-from, open_right}
 use Rattle.bits_core.proofs.Places.{slice_get-last}
@@ -53,6 +44,3 @@ IsRecord-quiet shape h n e kept follows quiet = grind (arith, add-zero n, IsReco
 pub MayFollow-answer : (shape : Shape) (h : List Event) (s : Side) (b : Bit) (asked v : Bool) → IsLawful shape h → open_access s h ≡ Some (Read b)
     → v ≡ (if is_overlapped s b h then asked else held_at_begin s b h) → MayFollow shape h (record { side = s; bit = b; act = ReadEnd v })
 MayFollow-answer shape h s b asked v lawful still answer = grind (arith, open_right shape h s (Read b) lawful still, IsAnswer-from h s b asked v answer)
-
-pub flickers-le : (shape : Shape) (h : List Event) (n : ℕ) → IsRecord shape h n → n ≤ length h
-flickers-le shape h n kept = subst (λ (k : ℕ). k ≤ length h) (sym kept.counted) (count_below-le (length h) (is_flicker_at h))

@@ -1,15 +1,8 @@
 -- What a bit holds, by places and by the events before a place.
 use Rattle.std.proofs.Common.{◌≡◌, ℕ, zero, suc, Bool, true, false, not, ◌⊎◌, inl, inr, Some, None, List, ◌∷◌, ◌+◌, ◌-◌, ◌<◌, ◌≤◌, length, take, drop, refl, ap, sym, subst, ◌∙◌, arith, []}
-use Rattle.std.specs.Prelude.{slice_get}
+use Rattle.bits_core.proofs.Common.{slice_get, false≢true, cases_lt, cases_order, take-take, Side, Bit, Event, Write, writer, first_value, same_side, begun_by, write_of, has_event, before_last}
+use Rattle.bits_core.proofs.Common.{writes_begun, last_value, held, is_empty, IsLastPlace}
 use Rattle.std.specs.List.{cons_option}
-use Rattle.std.proofs.lemmas.Bool.{false≢true, cases_lt, cases_order}
-use Rattle.std.proofs.lemmas.List.{take-take}
-use Rattle.bits_core.specs.declared.events.Side.{Side}
-use Rattle.bits_core.specs.declared.events.Bit.{Bit}
-use Rattle.bits_core.specs.declared.events.Event.{Event}
-use Rattle.bits_core.specs.declared.events.Access.TheVariants.{Write}
-use Rattle.bits_core.specs.Bits.{writer, first_value, same_side, begun_by, write_of}
-use Rattle.bits_core.specs.History.{has_event, before_last, writes_begun, last_value, held, is_empty, IsLastPlace}
 use Rattle.bits_core.specs.Intervals.{end_of, IsWrite, IsLastEnded, IsHeld}
 use Rattle.bits_core.proofs.Histories.{before_last-place, before_last-none}
 use Rattle.bits_core.proofs.Changes.{same_side-same}

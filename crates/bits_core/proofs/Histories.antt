@@ -1,15 +1,10 @@
 -- How each function of histories changes with one more event at the end.
 use Rattle.std.proofs.Common.{◌≡◌, ℕ, Bool, true, false, ◌||◌, Option, Some, None, List, ◌∷◌, ◌++◌, ◌+◌, take, drop, refl, ap, ◌∙◌, arith, []}
-use Rattle.std.specs.Prelude.{is_some, if◌then◌else◌, slice_get}
+use Rattle.bits_core.proofs.Common.{is_some, if◌then◌else◌, slice_get, or_parts, false≢true, Side, Bit, Event, writer, is_by, begun_by, write_of}
 use Rattle.std.proofs.lemmas.Option.{slice_get_within, get_or_from_slice_get}
 use Rattle.std.proofs.lemmas.List.{take-append-drop, drop_more}
-use Rattle.std.proofs.lemmas.Bool.{or_parts, false≢true}
 use Rattle.std.specs.Option.{option_to_list}
 use Rattle.std.proofs.lemmas.List.Elements.{filter_map-append}
-use Rattle.bits_core.specs.declared.events.Side.{Side}
-use Rattle.bits_core.specs.declared.events.Bit.{Bit}
-use Rattle.bits_core.specs.declared.events.Event.{Event}
-use Rattle.bits_core.specs.Bits.{writer, is_by, begun_by, write_of}
 use Rattle.bits_core.specs.History.{has_event, last_event, before_last, after_last, open_access, writes_begun, writes_ended, last_value, IsLastPlace}
 
 pub has_event-at : (s : Side) (xs : List Event) (e : Event) (ys : List Event) → is_by s e ≡ true → has_event s (xs ++ e ∷ ys) ≡ true
@@ -58,22 +53,9 @@ last_event-not s (x ∷ h) e by = rw (has_event-not s h e by, last_event-not s h
 pub before_last-push : (s : Side) (h : List Event) (e : Event) → before_last s (h ++ e ∷ []) ≡ (if is_by s e then h else before_last s h)
 before_last-push s h e = grind (arith, before_last-at, before_last-not)
 
-pub after_last-push : (s : Side) (h : List Event) (e : Event) → after_last s (h ++ e ∷ []) ≡ (if is_by s e then [] else after_last s h ++ e ∷ [])
-after_last-push s h e = grind (arith, after_last-at, after_last-not)
-
-pub last_event-push : (s : Side) (h : List Event) (e : Event) → last_event s (h ++ e ∷ []) ≡ (if is_by s e then Some e else last_event s h)
-last_event-push s h e = grind (arith, last_event-at, last_event-not)
-
 -- the open access of a side
 pub open_access-push : (s : Side) (h : List Event) (e : Event) → open_access s (h ++ e ∷ []) ≡ (if is_by s e then begun_by e else open_access s h)
-open_access-push s h e = grind (arith, last_event-push)
-
--- the writes of a bit
-pub writes_begun-push : (b : Bit) (h : List Event) (e : Event) → writes_begun b (h ++ e ∷ []) ≡ writes_begun b h ++ option_to_list (write_of b e)
-writes_begun-push b h e = grind (arith, filter_map-append)
-
-pub writes_ended-push : (b : Bit) (h : List Event) (e : Event) → writes_ended b (h ++ e ∷ []) ≡ (if is_by (writer b) e then writes_begun b h else writes_ended b h)
-writes_ended-push b h e = grind (arith, before_last-push)
+open_access-push s h e = grind (arith, last_event-at, last_event-not)
 
 -- a list is the events before a place, the event there, and those after it
 pub split_at : (h : List Event) (p : ℕ) (e : Event) → slice_get h p ≡ Some e → h ≡ take p h ++ e ∷ drop (p + 1) h

@@ -4,14 +4,8 @@ use Rattle.std.specs.Prelude.{slice_get, option_and_then, if◌then◌else◌}
 use Rattle.std.specs.List.{cons_option}
 use Rattle.std.proofs.lemmas.Bool.{or_cases, or_parts, false≢true, eq-eqb, and_from, or_left, or_right}
 use Rattle.std.proofs.lemmas.List.{drop-take}
-use Rattle.bits_core.specs.declared.events.Side.{Side}
-use Rattle.bits_core.specs.declared.events.Bit.{Bit}
-use Rattle.bits_core.specs.declared.events.Act.{Act}
-use Rattle.bits_core.specs.declared.events.Event.{Event}
-use Rattle.bits_core.specs.declared.events.Access.{Access}
-use Rattle.bits_core.specs.declared.events.Access.TheVariants.{Write}
-use Rattle.bits_core.specs.Bits.{writer, is_by, same_side, same_bit, doer, begun_by, begun_access, value_written, write_of}
-use Rattle.bits_core.specs.History.{has_event, open_access, writes_begun, is_empty, IsLastPlace}
+use Rattle.bits_core.proofs.Common.{Side, Bit, Act, Event, Access, Write, writer, is_by, same_side, same_bit, doer, begun_by, begun_access, value_written, write_of, has_event, open_access}
+use Rattle.bits_core.proofs.Common.{writes_begun, is_empty, IsLastPlace}
 use Rattle.bits_core.specs.Intervals.{first_place, end_of, IsAccess, IsOpenAt}
 use Rattle.bits_core.proofs.Histories.{last_event-place, last_event-none}
 use Rattle.bits_core.proofs.Changes.{same_side-same, same_bit-true}

@@ -1,8 +1,6 @@
 -- The laws, proved.
 use Rattle.std.proofs.Common.{◌++◌, length, take, ap, sym, subst, ◌∙◌, arith, []}
-use Rattle.std.proofs.Math.Seq.{take-length}
-use Rattle.bits_core.specs.History.{open_access, held}
-use Rattle.bits_core.specs.Intervals.{IsHeld}
+use Rattle.bits_core.proofs.Common.{take-length, open_access, held, IsHeld}
 use Rattle.bits_core.specs.Laws.{EmptyIsLawful, BeginningIsLawful, LawfulByOneMore, OpenIsByInterval, HeldIsByInterval, OverlapIsByInterval}
 use Rattle.bits_core.proofs.Statements.{HeldChanges}
 use Rattle.bits_core.proofs.StepLemmas.{EachMayFollow-empty, EachMayFollow-append, EachMayFollow-push, EachMayFollow-last}

@@ -1,19 +1,7 @@
 -- A lawful history, by places and by the events before each event.
 use Rattle.std.proofs.Common.{◌≡◌, ℕ, Bool, true, false, ◌⊎◌, inl, inr, Some, None, List, ◌+◌, ◌-◌, ◌<◌, ◌≤◌, length, take, drop, refl, ap, sym, subst, ◌∙◌, arith, ◌↔◌}
-use Rattle.std.specs.Prelude.{slice_get}
-use Rattle.std.proofs.lemmas.Bool.{false≢true, cases_lt}
-use Rattle.std.proofs.lemmas.Option.{none-some, slice_get_within}
-use Rattle.bits_core.specs.declared.events.Side.{Side}
-use Rattle.bits_core.specs.declared.events.Bit.{Bit}
-use Rattle.bits_core.specs.declared.events.Event.{Event}
-use Rattle.bits_core.specs.declared.events.Access.{Access}
-use Rattle.bits_core.specs.declared.events.Access.TheVariants.{Read, Write}
-use Rattle.bits_core.specs.Bits.{is_by, begun_by}
-use Rattle.bits_core.specs.History.{has_event, open_access, held, is_overlapped, IsLastPlace}
-use Rattle.bits_core.specs.declared.events.Act.{Act}
-use Rattle.bits_core.specs.declared.events.Act.TheVariants.{ReadBegin, ReadEnd, WriteBegin, WriteEnd}
-use Rattle.bits_core.specs.declared.shapes.Shape.{Shape}
-use Rattle.bits_core.specs.Steps.{FitsOpen, IsAnswer, IsPermittedAct, MayFollow}
+use Rattle.bits_core.proofs.Common.{slice_get, false≢true, cases_lt, none-some, slice_get_within, Side, Bit, Event, Access, Read, Write, is_by, begun_by, has_event, open_access, held, is_overlapped}
+use Rattle.bits_core.proofs.Common.{IsLastPlace, Act, ReadBegin, ReadEnd, WriteBegin, WriteEnd, Shape, FitsOpen, IsAnswer, IsPermittedAct, MayFollow}
 use Rattle.bits_core.specs.Lawful.{TakesTurn, AnswersSafely, IsLawfulEvent, IsLawful}
 use Rattle.bits_core.specs.Intervals.{IsRead, end_of, IsAccess, IsHeld, HasOverlap, IsOpenAt}
 use Rattle.bits_core.proofs.StepLemmas.{EachMayFollow}

@@ -1,3 +1,4 @@
+pub mod Common
 pub mod Statements
 pub mod Fitting
 pub mod ShapeLemmas

@@ -1,12 +1,6 @@
 -- The accesses that a side made, and those of the history.
 use Rattle.std.proofs.Common.{◌≡◌, ℕ, zero, suc, ◌+◌, ◌*◌, ◌<◌, true, Some, None, List, ◌∷◌, length, refl, ap, sym, subst, ◌∙◌, arith, take_at, []}
-use Rattle.std.specs.Prelude.{slice_get}
-use Rattle.std.proofs.lemmas.Option.{none-some}
-use Rattle.bits_core.specs.declared.events.Side.{Side}
-use Rattle.bits_core.specs.declared.events.Access.{Access}
-use Rattle.bits_core.specs.declared.events.Event.{Event}
-use Rattle.bits_core.specs.Bits.{same_side, is_by, begun_by}
-use Rattle.bits_core.specs.Intervals.{end_of, IsAccess}
+use Rattle.bits_core.proofs.Common.{slice_get, none-some, Side, Access, Event, same_side, is_by, begun_by, end_of, IsAccess}
 use Rattle.bits_core.specs.Made.{Made, access_of, begin_event, end_event, events_of, IsPrefix, subhistory, clock, place_of, IsPlaceOf}
 use Rattle.bits_core.proofs.Statements.{IsMadeAt, MadeIsAccess, AccessIsMade}
 use Rattle.bits_core.proofs.Places.{slice_get-append, slice_get-take}
@@ -75,21 +69,15 @@ pub made_is_access : MadeIsAccess
 made_is_access s h made follows n x at within =
     let start : ℕ = place_of s h (2 * n) in
     let p : IsPlaceOf s h (2 * n) start = subhistory_has_place s h (2 * n) within in
-    let a : IsAccess h s (access_of x) start (end_of s h start) = record {
-      event = begin_event s x;
-      at_start = p.at_place ∙ own_get s h made follows (2 * n) (begin_event s x) (begin_get s made n x at) within;
-      by_side = begin_by s x;
-      begins = begin_begins s x;
-      ends = refl;
-    } in
+    let a : IsAccess h s (access_of x) start (end_of s h start) =
+    grind (arith, own_get s h made follows (2 * n) (begin_event s x) (begin_get s made n x at) within, begin_get s made n x at, begin_by s x, begin_begins s x) in
     (end_of s h start, made_at s h made follows n x at start (end_of s h start) a p)
 
 pub access_is_made : AccessIsMade
 access_is_made s h made follows access start stop a =
     let by : is_by s a.event ≡ true = ap (same_side s) a.by_side ∙ same_side-same s in
     let o : IsOwn s h start a.event = own_at s h start a.event a.at_start by in
-    let there : slice_get (events_of s made) (clock s h start) ≡ Some a.event =
-    ap (λ l. slice_get l (clock s h start)) (sym follows.1) ∙ slice_get-append (subhistory s h) follows.0 (clock s h start) a.event o.own_event in
+    let there : slice_get (events_of s made) (clock s h start) ≡ Some a.event = grind (arith, slice_get-append (subhistory s h) follows.0 (clock s h start) a.event o.own_event) in
     let r : IsBegun made (clock s h start) access = begun_get s made (clock s h start) a.event access there a.begins in
     let p : IsPlaceOf s h (2 * r.number) start = record {
       at_place = a.at_start ∙ sym o.own_event ∙ ap (slice_get (subhistory s h)) r.is_begin;

@@ -1,29 +1,16 @@
 -- Marks, maintained event by event.
 use Rattle.std.proofs.Common.{◌≡◌, ◌≢◌, ℕ, zero, suc, ◌+◌, ◌<◌, ◌≤◌, ◌||◌, Bool, true, false, not, cond, Option, Some, None, List, ◌∷◌, ◌++◌, length, get_or, take, refl, ap, sym, subst, ◌∙◌, arith, []}
-use Rattle.std.proofs.Math.ListN.{set}
-use Rattle.std.specs.Prelude.{if◌then◌else◌, is_some, unwrap_or}
+use Rattle.bits_core.proofs.Common.{set, if◌then◌else◌, is_some, unwrap_or, none-some, take-length, Side, Bit, Act, ReadBegin, ReadEnd, WriteBegin, WriteEnd, Access, Read, Write, Event, Shape}
+use Rattle.bits_core.proofs.Common.{open_access, open_write, held, held_at_begin, is_overlapped, IsLawful, FitsOpen, MayFollow}
 use Rattle.std.proofs.lemmas.Bool.{false≢true, or_parts, and_parts, ltb-true}
 use Rattle.std.proofs.lemmas.Bool.Decides.{nat_tests}
-use Rattle.std.proofs.lemmas.Option.{none-some}
 use Rattle.std.proofs.lemmas.List.{take_more, get_or-set_same, get_or-set_other, length-set}
-use Rattle.std.proofs.Math.Seq.{take-length}
-use Rattle.bits_core.specs.declared.events.Side.{Side}
 use Rattle.bits_core.specs.declared.events.Side.TheVariants.{P}
-use Rattle.bits_core.specs.declared.events.Bit.{Bit}
 use Rattle.bits_core.specs.declared.events.Bit.TheVariants.{S}
-use Rattle.bits_core.specs.declared.events.Act.{Act}
-use Rattle.bits_core.specs.declared.events.Act.TheVariants.{ReadBegin, ReadEnd, WriteBegin, WriteEnd}
-use Rattle.bits_core.specs.declared.events.Access.{Access}
-use Rattle.bits_core.specs.declared.events.Access.TheVariants.{Read, Write}
-use Rattle.bits_core.specs.declared.events.Event.{Event}
-use Rattle.bits_core.specs.declared.shapes.Shape.{Shape}
 use Rattle.bits_core.specs.declared.marks.SideMark.{SideMark}
 use Rattle.bits_core.specs.declared.marks.Marks.{Marks}
 use Rattle.bits_core.specs.Bits.{other, writer, reader, doer, first_value, same_bit, same_side, is_by, begun_access, begun_by, write_of, value_written}
 use Rattle.bits_core.specs.Shape.{belongs}
-use Rattle.bits_core.specs.History.{open_access, open_write, held, held_at_begin, is_overlapped}
-use Rattle.bits_core.specs.Lawful.{IsLawful}
-use Rattle.bits_core.specs.Steps.{FitsOpen, MayFollow}
 use Rattle.bits_core.specs.Marks.{AreMarks, IsInTable, IsMark, beside, idle, side_mark, table_place, seat_of, settled, value_ended, with_mark, with_value}
 use Rattle.bits_core.proofs.Changes.{AllByDoer, AllByDoer-lawful, same_bit-true, same_side-same, open_write-push, held-push, held_at_begin-push, is_overlapped-push}
 use Rattle.bits_core.proofs.Histories.{open_access-push}
@@ -56,13 +43,10 @@ set-values values c b v size room there =
       | false ↦ λ apart. get_or-set_other values (table_place c) (table_place b) v false (places-apart b c there room apart)
     ] refl
 
-not_zero : (i : ℕ) → false ≡ first_value (S (suc i))
-not_zero i = grind (arith, nat_tests)
-
 -- the table of the first values
 pub first_values-at : (none : List Bool) → length none ≡ 4609 → ((k : ℕ) → k < 4609 → get_or none k false ≡ false)
     → (b : Bit) → IsInTable b → get_or (set (set none 0 true) 256 true) (table_place b) false ≡ first_value b
-first_values-at none size all b room = grind (arith, get_or-set_other, get_or-set_same, not_zero, length-set)
+first_values-at none size all b room = grind (arith, get_or-set_other, get_or-set_same, nat_tests, length-set)
 
 pub AreMarks-empty : (values : List Bool) → length values ≡ 4609 → ((b : Bit) → IsInTable b → get_or values (table_place b) false ≡ first_value b)
     → (shape : Shape) → AreMarks shape [] (record { values = values; sides = idle ∷ idle ∷ [] })
@@ -70,14 +54,11 @@ AreMarks-empty values size first shape = grind (arith, empty_is_lawful, none-som
 
 -- ---- a read that no write overlaps: its bit still holds what it held when the read began
 
-not_other : (s t : Side) → same_side s t ≡ not (same_side (other s) t)
-not_other s t = grind arith
-
 abbrev Quiet : Bit → List Event → Type 0
 Quiet b h = is_overlapped (reader b) b h ≡ false → (open_write b h ≡ None) × (held_at_begin (reader b) b h ≡ held b h)
 
 quiet-push : (b : Bit) (h : List Event) (e : Event) → AllByDoer h → Quiet b h → Quiet b (h ++ e ∷ [])
-quiet-push b h e by before none = grind (arith, not_other, is_overlapped-push, open_write-push, held_at_begin-push, held-push, none_when, or_parts)
+quiet-push b h e by before none = grind (arith, is_overlapped-push, open_write-push, held_at_begin-push, held-push, none_when, or_parts)
 
 quiet-take : (shape : Shape) (b : Bit) (h : List Event) (d : Event) → EachMayFollow shape h → (n : ℕ) → n ≤ length h → Quiet b (take n h)
 quiet-take shape b h d lawful zero within = λ none. (refl, refl)
@@ -94,10 +75,6 @@ pub settled-is : (shape : Shape) (h : List Event) (s : Side) (b : Bit) (marks : 
     → (if (side_mark s marks).overlapped then None else Some (get_or marks.values (table_place b) false)) ≡ settled s b h
 settled-is shape h s b marks are reads room = grind (arith, open_right shape h s (Read b) are.lawful reads, quiet_holds shape b h are.lawful)
 
--- the answer of a read, by what it has to answer and what an oracle is asked
-pub overlapped-is : (s : Side) (b : Bit) (h : List Event) (due : Option Bool) (none : Bool) → due ≡ settled s b h → is_some due ≡ not none → none ≡ is_overlapped s b h
-overlapped-is s b h due none is some = grind arith
-
 pub answer-is : (s : Side) (b : Bit) (h : List Event) (due : Option Bool) (asked : Bool) → due ≡ settled s b h → unwrap_or due asked ≡ (if is_overlapped s b h then asked else held_at_begin s b h)
 answer-is s b h due asked is = grind arith
 
@@ -112,10 +89,6 @@ no_write o s c b v none = ap (λ x. cond (same_side (writer b) s) (unwrap_or x v
 write_ends : (s : Side) (c b : Bit) (w v : Bool) → s ≡ writer c → cond (same_side (writer b) s) (unwrap_or (cond (same_bit b c) (Some w) None) v) v ≡ cond (same_bit b c) w v
 write_ends s c b w v by = grind (arith, same_bit-true, same_side-same, both)
 
-act_ends : (o : Option Access) (s : Side) (c : Bit) (a : Act) (b : Bit) (v : Bool) → s ≡ doer c a → FitsOpen c a o
-    → cond (same_side (writer b) s) (unwrap_or (value_written b o) v) v ≡ cond (same_bit b c) (unwrap_or (value_ended a o) v) v
-act_ends o s c a b v by fits = grind (arith, no_write, write_ends)
-
 -- what a bit holds changes when the open write of it ends
 held-ends : (shape : Shape) (h : List Event) (s : Side) (c : Bit) (a : Act) (b : Bit) → IsLawful shape h → s ≡ doer c a → FitsOpen c a (open_access s h)
     → held b (h ++ record { side = s; bit = c; act = a } ∷ []) ≡ (if same_bit b c then unwrap_or (value_ended a (open_access s h)) (held b h) else held b h)
@@ -123,17 +96,12 @@ held-ends shape h s c a b lawful by fits =
     let e : Event = record { side = s; bit = c; act = a } in
     let v : Bool = held b h in
     let changes : held b (h ++ e ∷ []) ≡ (if same_side (writer b) s then unwrap_or (value_written b (open_access (writer b) h)) v else v) = held-push b h e (AllByDoer-lawful shape h (IsLawful-to shape h lawful)) in
-    grind (arith, same_side-true, act_ends)
+    grind (arith, same_side-true, no_write, write_ends)
 
 -- the event's own side
 mark-own : (h : List Event) (e : Event) (mark : SideMark) → mark.opened ≡ begun_by e
     → ((b : Bit) → begun_by e ≡ Some (Read b) → mark.overlapped ≡ is_some (open_write b h)) → IsMark e.side (h ++ e ∷ []) mark
 mark-own h e mark opened overlapped = grind (arith, same_side-same, open_access-push, is_overlapped-push)
-
--- the other side
-mark-beside : (s : Side) (h : List Event) (e : Event) (mark before : SideMark) → is_by s e ≡ false → IsMark s h before
-    → mark.opened ≡ before.opened → ((b : Bit) → before.opened ≡ Some (Read b) → mark.overlapped ≡ (before.overlapped || is_some (write_of b e))) → IsMark s (h ++ e ∷ []) mark
-mark-beside s h e mark before other is opened overlapped = grind (arith, open_access-push, is_overlapped-push)
 
 -- what is recorded of an event
 pub record HasRecorded (before : Marks) (e : Event) (marks : Marks) : Type 0 where
@@ -162,7 +130,7 @@ module _ (shape : Shape) (h : List Event) (e : Event) (before marks : Marks) (ar
   own_mark = mark-own h e (side_mark e.side marks) kept.own_opened (λ b reads. kept.own_overlapped b reads ∙ ap (λ o. is_some (value_written b o)) (are.sides (writer b)).opened_is)
 
   other_mark : IsMark (other e.side) (h ++ e ∷ []) (side_mark (other e.side) marks)
-  other_mark = mark-beside (other e.side) h e (side_mark (other e.side) marks) (side_mark (other e.side) before) (by_other e.side) (are.sides (other e.side)) kept.other_opened kept.other_overlapped
+  other_mark = grind (arith, open_access-push, is_overlapped-push)
 
   each_mark : (s t : Side) → IsMark s (h ++ e ∷ []) (side_mark s marks) → IsMark (other s) (h ++ e ∷ []) (side_mark (other s) marks) → IsMark t (h ++ e ∷ []) (side_mark t marks)
   each_mark s t own beside = grind arith
@@ -190,9 +158,6 @@ with_mark-own marks s mark seats = grind (arith, get_or-set_same)
 
 with_mark-other : (marks : Marks) (s : Side) (mark : SideMark) → side_mark (other s) (with_mark marks s mark) ≡ side_mark (other s) marks
 with_mark-other marks s mark = grind (arith, get_or-set_other)
-
-is_some_if : (t v : Bool) → t ≡ is_some (cond t (Some v) None)
-is_some_if t v = grind arith
 
 or_none : (x : Bool) → x ≡ (x || false)
 or_none x = grind arith
@@ -233,7 +198,7 @@ module _ (before : Marks) (s : Side) (b : Bit) (seats : length before.sides ≡ 
       let size : length middle.sides ≡ 2 = length-set before.sides (seat_of (other s)) reader_mark ∙ seats in
       let own = with_mark-own middle s mark size in
       let other_one : side_mark (other s) (with_mark middle s mark) ≡ reader_mark = with_mark-other middle s mark ∙ with_mark-own before (other s) reader_mark seats in
-      grind (arith, length-set, reads, is_some_if)
+      grind (arith, length-set, reads)
 
   pub wrote : HasRecorded before (record { side = s; bit = b; act = WriteEnd })
       (with_mark (record before { values = with_value before.values b (value_ended WriteEnd (side_mark s before).opened) }) s idle)

@@ -1,14 +1,7 @@
 -- The access that a side has open in a lawful history is to a bit of the shape, by the side that may make it.
 use Rattle.std.proofs.Common.{◌≡◌, Bool, Option, Some, List, arith}
 use Rattle.std.specs.Prelude.{IfSome, if◌then◌else◌}
-use Rattle.bits_core.specs.declared.events.Side.{Side}
-use Rattle.bits_core.specs.declared.events.Bit.{Bit}
-use Rattle.bits_core.specs.declared.events.Access.{Access}
-use Rattle.bits_core.specs.declared.events.Event.{Event}
-use Rattle.bits_core.specs.declared.shapes.Shape.{Shape}
-use Rattle.bits_core.specs.History.{open_access, is_overlapped, held_at_begin}
-use Rattle.bits_core.specs.Steps.{IsAnswer}
-use Rattle.bits_core.specs.Lawful.{IsLawful}
+use Rattle.bits_core.proofs.Common.{Side, Bit, Access, Event, Shape, open_access, is_overlapped, held_at_begin, IsAnswer, IsLawful}
 use Rattle.bits_core.specs.Open.{IsOpenRight}
 use Rattle.bits_core.proofs.LawProofs.{open_is_by_interval}
 

@@ -1,15 +1,8 @@
 -- Overlap, by places and by the events before a place.
 use Rattle.std.proofs.Common.{◌≡◌, ℕ, Bool, true, ◌||◌, not, inl, inr, Some, List, ◌+◌, ◌-◌, ◌<◌, ◌≤◌, length, take, drop, refl, ap, sym, subst, ◌∙◌, arith}
-use Rattle.std.specs.Prelude.{slice_get, is_some}
+use Rattle.bits_core.proofs.Common.{slice_get, is_some, take-take, Side, Bit, Event, Write, writer, doer, begun_by, before_last, open_access, open_write, writes_begun, is_overlapped, is_empty}
+use Rattle.bits_core.proofs.Common.{IsLastPlace, end_of, HasOverlap, IsOpenAt}
 use Rattle.std.proofs.lemmas.Bool.{or_cases, or_left, or_right, cases_lt, cases_order}
-use Rattle.std.proofs.lemmas.List.{take-take}
-use Rattle.bits_core.specs.declared.events.Side.{Side}
-use Rattle.bits_core.specs.declared.events.Bit.{Bit}
-use Rattle.bits_core.specs.declared.events.Event.{Event}
-use Rattle.bits_core.specs.declared.events.Access.TheVariants.{Write}
-use Rattle.bits_core.specs.Bits.{writer, doer, begun_by}
-use Rattle.bits_core.specs.History.{before_last, open_access, open_write, writes_begun, is_overlapped, is_empty, IsLastPlace}
-use Rattle.bits_core.specs.Intervals.{end_of, HasOverlap, IsOpenAt}
 use Rattle.bits_core.proofs.Histories.{before_last-place, after_last-place, some_when}
 use Rattle.bits_core.proofs.IntervalLemmas.{open_access-from, IsOpenAt-from, value_written-from, value_written-to, begins_write, IsWriteAt, write_exists, write_found}
 use Rattle.bits_core.proofs.Places.{slice_get-take, slice_get-from_take, slice_get-drop}
@@ -71,13 +64,9 @@ module _ (h : List Event) (s : Side) (b : Bit) (start stop : ℕ) (last : IsLast
               or_left (is_some (open_write b (take start h))) (not (is_empty (writes_begun b (drop (start + 1) (take stop h)))))
               (ap is_some (open_write-from h b start o.value (o.start', o.stop', o.write, l, reach)))
           | inr l ↦
-              let below : o.start' < stop = elim (cases_order o.start' stop) [
-                | inl e ↦ absurd (not_stop o.value o.write.event (subst (λ n. slice_get h n ≡ Some o.write.event) e o.write.at_start) o.write.begins)
-                | inr m ↦ elim m [ inl k ↦ k | inr k ↦ absurd (o.overlap.0 k) ]
-              ] in
+              let below : o.start' < stop = grind (arith, cases_order) in
               let sum : start + 1 + (o.start' - (start + 1)) ≡ o.start' = omega arith in
-              let at : slice_get (drop (start + 1) (take stop h)) (o.start' - (start + 1)) ≡ Some o.write.event =
-              slice_get-drop (start + 1) (take stop h) (o.start' - (start + 1)) ∙ ap (slice_get (take stop h)) sum ∙ slice_get-take h stop o.start' o.write.event o.write.at_start below in
+              let at : slice_get (drop (start + 1) (take stop h)) (o.start' - (start + 1)) ≡ Some o.write.event = grind (arith, slice_get-drop, slice_get-take) in
               or_right (is_some (open_write b (take start h))) (not (is_empty (writes_begun b (drop (start + 1) (take stop h)))))
               (write_found b (drop (start + 1) (take stop h)) (o.start' - (start + 1)) o.write.event o.value at (value_written-to b (begun_by o.write.event) o.value o.write.begins))
         ]

@@ -1,12 +1,8 @@
 -- A side's own events in a history, and their places.
 use Rattle.std.proofs.Common.{◌≡◌, ◌⊎◌, inl, inr, ℕ, zero, suc, ◌+◌, ◌<◌, ◌≤◌, Bool, true, false, Some, List, ◌∷◌, ◌++◌, length, take, drop, refl, ap, sym, arith, append-nil, []}
-use Rattle.std.specs.Prelude.{slice_get, if◌then◌else◌}
+use Rattle.bits_core.proofs.Common.{slice_get, if◌then◌else◌, Side, Event, is_by, subhistory, clock, place_of, IsPlaceOf}
 use Rattle.std.proofs.lemmas.List.Elements.{filter-append}
-use Rattle.bits_core.specs.declared.events.Side.{Side}
-use Rattle.bits_core.specs.declared.events.Event.{Event}
-use Rattle.bits_core.specs.Bits.{is_by}
 use Rattle.bits_core.specs.Intervals.{first_place}
-use Rattle.bits_core.specs.Made.{subhistory, clock, place_of, IsPlaceOf}
 use Rattle.bits_core.specs.Laws.{SubhistoryChanges}
 use Rattle.bits_core.proofs.Statements.{SubhistoryHasPlace, SubhistoryHasOnePlace, ClockCountsPlaces}
 

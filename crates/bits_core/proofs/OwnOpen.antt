@@ -1,14 +1,7 @@
 -- What is open, event by event: from a side's own events, after complete accesses, and while nothing overlaps.
 use Rattle.std.proofs.Common.{◌≡◌, Bool, true, false, ◌||◌, Option, None, List, ◌∷◌, ◌++◌, refl, ap, sym, subst, ◌∙◌, append-nil, append_assoc, arith, []}
-use Rattle.std.specs.Prelude.{is_some, unwrap_or, if◌then◌else◌}
-use Rattle.std.proofs.lemmas.Bool.{or_parts, false≢true}
-use Rattle.bits_core.specs.declared.events.Side.{Side}
-use Rattle.bits_core.specs.declared.events.Bit.{Bit}
-use Rattle.bits_core.specs.declared.events.Event.{Event}
-use Rattle.bits_core.specs.declared.shapes.Shape.{Shape}
-use Rattle.bits_core.specs.Bits.{writer, reader, same_side, is_by, begun_by, write_of}
-use Rattle.bits_core.specs.History.{before_last, open_access, open_write, held, is_overlapped}
-use Rattle.bits_core.specs.Lawful.{IsLawful}
+use Rattle.bits_core.proofs.Common.{is_some, unwrap_or, if◌then◌else◌, or_parts, false≢true, Side, Bit, Event, Shape, writer, reader, same_side, is_by, begun_by, write_of, before_last, open_access}
+use Rattle.bits_core.proofs.Common.{open_write, held, is_overlapped, IsLawful}
 use Rattle.bits_core.specs.Made.{Made, begin_event, end_event, events_of, subhistory}
 use Rattle.bits_core.specs.Laws.{OpenFromOwn, MadeLeaveNoneOpen}
 use Rattle.bits_core.proofs.Statements.{QuietIsHeld}

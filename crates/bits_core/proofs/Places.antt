@@ -1,8 +1,6 @@
 -- Positions of a list's elements, in parts of the list and in lists that it is part of.
 use Rattle.std.proofs.Common.{◌≡◌, ℕ, zero, suc, ◌⊎◌, inl, Some, List, ◌∷◌, ◌++◌, ◌+◌, ◌<◌, length, take, drop, refl, ap, sym, ◌∙◌, arith, ◌≤◌, length-append, []}
-use Rattle.std.specs.Prelude.{slice_get}
-use Rattle.std.proofs.lemmas.Option.{none-some}
-use Rattle.bits_core.specs.Made.{IsPrefix}
+use Rattle.bits_core.proofs.Common.{slice_get, none-some, IsPrefix}
 
 -- places of a list with more at its end
 pub slice_get-append : {A : Type 0} (xs ys : List A) (p : ℕ) (e : A) → slice_get xs p ≡ Some e → slice_get (xs ++ ys) p ≡ Some e

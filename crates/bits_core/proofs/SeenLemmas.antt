@@ -1,11 +1,7 @@
 -- What is seen at each event so far, with one more event.
 use Rattle.std.proofs.Common.{◌≡◌, ◌≢◌, ℕ, zero, suc, ◌+◌, ◌<◌, ◌≤◌, Some, List, ◌∷◌, take, refl, ap, sym, subst, ◌∙◌, arith, inl, inr, []}
-use Rattle.std.proofs.Math.ListN.{set}
-use Rattle.std.specs.Prelude.{slice_get}
-use Rattle.std.proofs.lemmas.Bool.{cases_lt}
-use Rattle.std.proofs.lemmas.List.{length-set}
+use Rattle.bits_core.proofs.Common.{set, slice_get, cases_lt, length-set, Event}
 use Rattle.std.proofs.lemmas.Option.{none-some, same_Some}
-use Rattle.bits_core.specs.declared.events.Event.{Event}
 use Rattle.bits_core.specs.declared.audits.Seen.{Seen}
 use Rattle.bits_core.specs.Seen.{AreSeen, IsSeen}
 
@@ -21,9 +17,6 @@ set_elsewhere [] i j y apart = refl
 set_elsewhere (x ∷ xs) zero j y apart = grind arith
 set_elsewhere (x ∷ xs) (suc i) zero y apart = refl
 set_elsewhere (x ∷ xs) (suc i) (suc j) y apart = set_elsewhere xs i j y (λ e. apart (ap suc e))
-
-pub AreSeen-none : (h : List Event) (seen : List Seen) → AreSeen h 0 seen seen
-AreSeen-none h seen = record { room = refl; seen = (λ place e x below. absurd (omega arith)); rest = (λ place past. refl) }
 
 pub AreSeen-more : (h : List Event) (n : ℕ) (old new : List Seen) (e : Event) (x : Seen) → slice_get h n ≡ Some e → IsSeen (take n h) e x → AreSeen h n old new → AreSeen h (n + 1) old (set new n x)
 AreSeen-more h n old new e x at is so_far = record {

@@ -1,9 +1,8 @@
 -- Shapes of the same numbers, and that five numbers either make a shape or are refused for one reason.
 use Rattle.std.proofs.Common.{◌≡◌, ◌⊎◌, ℕ, ◌+◌, ◌<◌, ◌≤◌, inl, inr, refl, arith}
 use Rattle.std.specs.Coded.{le_prop}
-use Rattle.std.proofs.lemmas.Bool.{cases_lt}
+use Rattle.bits_core.proofs.Common.{cases_lt, Shape}
 use mathlib.Core.HLevel.{is_prop→PathP}
-use Rattle.bits_core.specs.declared.shapes.Shape.{Shape}
 use Rattle.bits_core.specs.declared.faults.ShapeFault.{ShapeFault}
 use Rattle.bits_core.specs.declared.faults.ShapeFault.TheVariants.{Capacity, Width, Batch, TakeBatch}
 use Rattle.bits_core.specs.Shape.{AreBatchSizes, HasBatches, IsModulusForBoth, IsRefusedBatches, batch_of, capacity_of, modulus_of, take_batch_of, width_of}

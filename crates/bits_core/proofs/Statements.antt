@@ -1,16 +1,8 @@
 -- What proofs above say of a history with one more event, and of the places of a side's own events.
 use Rattle.std.specs.Prelude.{◌≡◌, ℕ, suc, ◌*◌, ◌<◌, ◌↔◌, false, Some, None, List, ◌∷◌, ◌++◌, length, take, slice_get, if◌then◌else◌, unwrap_or, []}
-use Rattle.bits_core.specs.declared.events.Side.{Side}
-use Rattle.bits_core.specs.declared.events.Bit.{Bit}
-use Rattle.bits_core.specs.declared.events.Access.{Access}
-use Rattle.bits_core.specs.declared.events.Event.{Event}
+use Rattle.bits_core.proofs.Common.{Side, Bit, Access, Event, Shape, reader, writer, is_by, before_last, open_write, held, held_at_begin, is_overlapped, IsAccess, IsLawful}
 use Rattle.bits_core.specs.declared.faults.Kind.{Kind}
-use Rattle.bits_core.specs.declared.shapes.Shape.{Shape}
 use Rattle.bits_core.specs.Audit.{IsFaultAfter, IsFirstFault}
-use Rattle.bits_core.specs.Bits.{reader, writer, is_by}
-use Rattle.bits_core.specs.History.{before_last, open_write, held, held_at_begin, is_overlapped}
-use Rattle.bits_core.specs.Intervals.{IsAccess}
-use Rattle.bits_core.specs.Lawful.{IsLawful}
 use Rattle.bits_core.specs.Made.{Made, access_of, events_of, IsPrefix, subhistory, clock, place_of, IsPlaceOf, end_event}
 
 abbrev pub HeldChanges : Type 0

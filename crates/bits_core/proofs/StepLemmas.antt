@@ -1,11 +1,7 @@
 -- One more event, and prefixes, of a history each of whose events may follow those before it.
 use Rattle.std.proofs.Common.{◌≡◌, ℕ, Some, inl, inr, List, ◌∷◌, ◌++◌, ◌≤◌, length, take, drop, refl, sym, subst, arith, []}
-use Rattle.std.specs.Prelude.{slice_get}
-use Rattle.std.proofs.lemmas.Option.{none-some, slice_get_within}
+use Rattle.bits_core.proofs.Common.{slice_get, none-some, slice_get_within, Event, Shape, MayFollow}
 use Rattle.std.proofs.lemmas.List.{take-append-le, take-append-drop, take_at}
-use Rattle.bits_core.specs.declared.events.Event.{Event}
-use Rattle.bits_core.specs.declared.shapes.Shape.{Shape}
-use Rattle.bits_core.specs.Steps.{MayFollow}
 use Rattle.bits_core.proofs.Places.{slice_get-append, slice_get-last, slice_get-push_cases}
 
 -- each event may follow the events before it

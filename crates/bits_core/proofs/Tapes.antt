@@ -5,12 +5,9 @@ use Rattle.std.proofs.lemmas.Bool.{eqb-true}
 use Rattle.std.proofs.Math.Nat.{add-mod_left, mod-eq_of_lt}
 use Rattle.bits_core.specs.Oracle.{turn}
 
-turn_again : (answers : List Bool) (i : ℕ) → turn answers (length answers + i) ≡ turn answers i
-turn_again answers i = grind (arith, add-mod_left)
-
 -- the place of the next answer represents the tape's position
 pub turn_from : (answers : List Bool) (place next i : ℕ) → next ≡ (if place == length answers then 0 else place) → turn answers (next + i) ≡ turn answers (place + i)
-turn_from answers place next i is = grind (arith, eqb-true, turn_again)
+turn_from answers place next i is = grind (arith, eqb-true, add-mod_left)
 
 -- below the end, the answer is the one at the place
 pub turn-within : (answers : List Bool) (i : ℕ) → i < length answers → turn answers i ≡ slice_index_or answers i false

@@ -1,9 +1,6 @@
 -- The writer of a bit stands after what it made.
 use Rattle.std.proofs.Common.{arith, ◌≡◌, Bool, None, List, [], ◌∷◌, ◌++◌, append_assoc, append-nil, sym, ap, ◌∙◌}
-use Rattle.std.proofs.lemmas.List.{map-append}
-use Rattle.bits_core.specs.declared.events.Bit.{Bit}
-use Rattle.bits_core.specs.History.{last_value}
-use Rattle.bits_core.specs.Made.{Made}
+use Rattle.register_core.proofs.Common.{map-append, Bit, last_value, Made}
 use Rattle.register_core.specs.BitLaw.{logical_write, logical_writes}
 use Rattle.register_core.specs.BitState.{BitState, due_change, writes_to, first_write_to, BitStands}
 use Rattle.bits_core.proofs.Histories.{last_value-push as last-more}

@@ -1,16 +1,8 @@
 -- The digits of a cell in a history.
 use Rattle.std.proofs.Common.{◌≡◌, ℕ, Bool, false, cond, List, Some, None, ap, arith, refl}
 use Rattle.std.proofs.lemmas.Bool.{eq-eqb}
-use Rattle.std.proofs.lemmas.Bool.Decides.{nat_tests}
-use Rattle.std.proofs.lemmas.Option.{none-some}
-use Rattle.bits_core.specs.declared.events.Side.TheVariants.{P}
-use Rattle.bits_core.specs.declared.events.Bit.{Bit}
-use Rattle.bits_core.specs.declared.events.Bit.TheVariants.{Cell}
+use Rattle.register_core.proofs.Common.{nat_tests, none-some, P, Bit, Cell, Event, begun_by, before_last, held, RowWrite, bits_after}
 use Rattle.bits_core.specs.declared.events.Access.TheVariants.{Write}
-use Rattle.bits_core.specs.declared.events.Event.{Event}
-use Rattle.bits_core.specs.Bits.{begun_by}
-use Rattle.bits_core.specs.History.{before_last, held}
-use Rattle.register_core.specs.Row.{RowWrite, bits_after}
 use Rattle.register_core.specs.WordLaw.{number_in_cell, cell_write, cell_writes}
 use Rattle.register_core.proofs.RowWrites.{HasNumbers, write_to-to, write_to-from, row_after}
 

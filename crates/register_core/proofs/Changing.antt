@@ -1,7 +1,6 @@
 -- Each bit write of a unary write changes its bit, so a safe bit written in this way is regular.
 use Rattle.std.proofs.Common.{◌≡◌, ℕ, zero, suc, ◌≤◌, Bool, not, List, [], ◌∷◌, ◌++◌, take, slice_get, Some, sym, ap, arith, ◌∙◌, ◌⊎◌, inl, inr}
-use Rattle.register_core.specs.Row.{RowWrite, first_bits, bits_with, bits_after}
-use Rattle.register_core.specs.Unary.{unary_phrase, unary_writes, row_writes}
+use Rattle.register_core.proofs.Common.{RowWrite, first_bits, bits_with, bits_after, unary_phrase, unary_writes, row_writes}
 use Rattle.register_core.proofs.WriterMoments.{bits_at, Answered, SafelyAnswered}
 use Rattle.register_core.proofs.Rows.{same_bit}
 use Rattle.register_core.proofs.Phrase.{Run, phrase-run}

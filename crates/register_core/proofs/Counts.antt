@@ -1,13 +1,7 @@
 -- The count that a side writes, in a history.
 use Rattle.std.proofs.Common.{arith, ◌≡◌, ℕ, Bool, List, Some}
-use Rattle.bits_core.specs.declared.events.Side.{Side}
-use Rattle.bits_core.specs.declared.events.Side.TheVariants.{P, C}
-use Rattle.bits_core.specs.declared.events.Bit.{Bit}
+use Rattle.register_core.proofs.Common.{Side, P, C, Bit, Event, writer, begun_by, before_last, held, row_bit, first_bits, bits_after}
 use Rattle.bits_core.specs.declared.events.Access.TheVariants.{Write}
-use Rattle.bits_core.specs.declared.events.Event.{Event}
-use Rattle.bits_core.specs.Bits.{writer, begun_by}
-use Rattle.bits_core.specs.History.{before_last, held}
-use Rattle.register_core.specs.Row.{row_bit, first_bits, bits_after}
 use Rattle.register_core.specs.UnaryLaw.{number_in_count, count_write, count_ended}
 use Rattle.register_core.proofs.RowWrites.{HasNumbers, write_to-to, write_to-from, row_after}
 use Rattle.register_core.proofs.Turns.{BeginsWrites}

@@ -13,14 +13,9 @@ record Turn (f : ℕ → Bool) (x : Bool) (t j : ℕ) : Type 0 where
   old : f moment ≡ x
   new : f (suc moment) ≡ not x
 
-turn_step :
-    (f : ℕ → Bool) (x : Bool) (t d : ℕ) → (f (t + d) ≡ x) ⊎ (f (t + d) ≡ not x) →
-    (f (t + d) ≡ not x → Turn f x t (t + d)) → f (suc (t + d)) ≡ not x → Turn f x t (suc (t + d))
-turn_step f x t d h1 h2 h3 = grind arith
-
 turn_from : (f : ℕ → Bool) (x : Bool) (t d : ℕ) → f t ≡ x → f (t + d) ≡ not x → Turn f x t (t + d)
 turn_from f x t zero old new = grind (arith, differs)
-turn_from f x t (suc d) old new = grind (arith, is_or_not, turn_step, (turn_from f x t d old))
+turn_from f x t (suc d) old new = grind (arith, is_or_not, (turn_from f x t d old))
 
 turn : (f : ℕ → Bool) (x : Bool) (t j : ℕ) → t ≤ j → f t ≡ x → f j ≡ not x → Turn f x t j
 turn f x t j fits old new =

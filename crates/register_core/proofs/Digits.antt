@@ -3,8 +3,7 @@ use Rattle.std.proofs.Common.{◌≡◌, ℕ, zero, suc, ◌+◌, ◌/◌, ◌^�
 use Rattle.std.specs.Int.{bit_at}
 use Rattle.std.proofs.lemmas.Nat.Bits.{bit_at_lowest, bit_at-suc, bit_at_above}
 use Rattle.std.proofs.Math.Nat.{pow-succ'}
-use Rattle.bits_core.specs.declared.events.Bit.TheVariants.{Cell}
-use Rattle.bits_core.specs.Made.{Read, IsPrefix}
+use Rattle.register_core.proofs.Common.{Cell, Read, IsPrefix}
 use Rattle.register_core.specs.Word.{digit, digit_writes, digit_reads}
 
 -- a number below a power of two, with that power added, has the same digits below it and a 1 there
@@ -12,9 +11,6 @@ pub bit_below : (n v i : ℕ) → v < 2 ^ n → i < n → bit_at (v + 2 ^ n) i �
 bit_below zero v i fits within = absurd (omega arith)
 bit_below (suc n) v zero fits within = bit_at_lowest (v + 2 ^ suc n) ∙ omega (arith, pow-succ' 2 n) ∙ sym (bit_at_lowest v)
 bit_below (suc n) v (suc i) fits within = grind (arith, bit_at-suc, pow-succ', (bit_below n (v / 2) i (omega (arith, pow-succ' 2 n)) (omega arith)))
-
-pub bit_here : (n v : ℕ) → v < 2 ^ n → bit_at (v + 2 ^ n) n ≡ 1
-bit_here n v h1 = grind (arith, bit_at-suc, pow-succ')
 
 -- fewer digits are a prefix
 more : {A : Type 0} (xs ys : List A) (x : A) → IsPrefix xs ys → IsPrefix xs (ys ++ x ∷ [])
@@ -50,7 +46,7 @@ reads_same cell (suc n) a b same =
 
 -- one more digit, of 1 or of 0
 pub reads_one : (cell n v : ℕ) → v < 2 ^ n → digit_reads cell (v + 2 ^ n) (suc n) ≡ digit_reads cell v n ++ Read (Cell cell n) true ∷ []
-reads_one cell n v fits = grind (arith, bit_below, bit_here, reads_same)
+reads_one cell n v fits = grind (arith, bit_below, bit_at-suc, pow-succ', reads_same)
 
 pub reads_zero : (cell n v : ℕ) → v < 2 ^ n → digit_reads cell v (suc n) ≡ digit_reads cell v n ++ Read (Cell cell n) false ∷ []
 reads_zero cell n v fits = ap (λ k. digit_reads cell v n ++ Read (Cell cell n) (k == 1) ∷ []) (bit_at_above v n n fits (omega arith))

@@ -1,7 +1,6 @@
 -- The bit writes that are due, by what the writer remembers.
 use Rattle.std.proofs.Common.{◌≡◌, ℕ, zero, suc, ◌-◌, ◌<◌, ◌≤◌, Bool, true, false, cond, List, [], ◌∷◌, ◌++◌, slice_set, sym, ap, arith, ◌∙◌, ◌⊎◌, inl, inr, eq-or-lt_of_le}
-use Rattle.std.proofs.lemmas.Bool.{cases_lt}
-use Rattle.register_core.specs.Unary.{clearing, unary_phrase}
+use Rattle.register_core.proofs.Common.{cases_lt, clearing, unary_phrase}
 use Rattle.register_core.specs.UnaryState.{UnaryState, IsClearDownTo, bit_in, due_writes, row_fed, row_with}
 
 pub clearing-set : (bits : ℕ → Bool) (j : ℕ) → bits j ≡ true →
@@ -21,18 +20,11 @@ clearing-down bits (suc v) p fits clear =
     place (inl e) rest = ap (clearing bits) (sym e)
     place (inr h) rest = clearing-clear bits v (clear v (omega arith) (omega arith)) ∙ rest (omega arith)
 
-pub unary_phrase-clear : (bits : ℕ → Bool) (v : ℕ) → bits v ≡ false →
-    unary_phrase bits v ≡ record { bit = v; value = true } ∷ clearing bits v
-unary_phrase-clear bits v e = ap (λ b. cond b [] (record { bit = v; value = true } ∷ []) ++ clearing bits v) e
-
-pub unary_phrase-set : (bits : ℕ → Bool) (v : ℕ) → bits v ≡ true → unary_phrase bits v ≡ clearing bits v
-unary_phrase-set bits v e = ap (λ b. cond b [] (record { bit = v; value = true } ∷ []) ++ clearing bits v) e
-
 -- If the value's bit is set, what is due is found below the place.
 pub due-below : {modulus : ℕ} {memory : List Bool} {value place : ℕ} →
     IsClearDownTo modulus memory value place → bit_in memory value ≡ true →
     unary_phrase (bit_in memory) value ≡ clearing (bit_in memory) place
-due-below {modulus} {memory} {value} {place} at e = grind (arith, clearing-down, unary_phrase-set, at.clear, at.within)
+due-below {modulus} {memory} {value} {place} at e = grind (arith, clearing-down, at.clear, at.within)
 
 module _ (w : UnaryState) (place : ℕ) (at : IsClearDownTo w.modulus w.bits w.value place) (is_set : bit_in w.bits w.value ≡ true) where
   pub due-clears : 0 < place →
@@ -53,7 +45,7 @@ module _ (w : UnaryState) (place : ℕ) (at : IsClearDownTo w.modulus w.bits w.v
 
 pub due-sets : (w : UnaryState) → bit_in w.bits w.value ≡ false →
     due_writes w ≡ record { bit = w.value; value = true } ∷ clearing (bit_in w.bits) w.value
-due-sets w is_clear = unary_phrase-clear (bit_in w.bits) w.value is_clear
+due-sets w is_clear = grind arith
 
 pub fed-sets : (w : UnaryState) → bit_in w.bits w.value ≡ false → row_fed w ≡ record w { bits = slice_set w.bits w.value true }
 fed-sets w is_clear = ap (λ ws. row_with w ws) (due-sets w is_clear)

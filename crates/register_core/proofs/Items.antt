@@ -1,10 +1,8 @@
 -- The digits of items, and what word writes leave in the bits of a cell.
 use Rattle.std.proofs.Common.{◌≡◌, ℕ, zero, suc, ◌*◌, ◌^◌, ◌/◌, ◌%◌, ◌<◌, ◌≤◌, ◌==◌, Bool, true, false, cond, nat_eq, List, [], ◌∷◌, ◌++◌, length, take, drop, Some, slice_get, refl, sym, ap, arith, ◌∙◌, inl, inr, append_assoc, length-append, length-take-le, take_at, pow-suc, suc-mul}
 use Rattle.std.proofs.lemmas.Bool.{cases_order}
-use Rattle.std.proofs.lemmas.Bool.Decides.{nat_tests}
+use Rattle.register_core.proofs.Common.{nat_tests, bits_after, digit, digit_writes, word_writes}
 use Rattle.std.proofs.lemmas.Nat.Bits.{bit_at_lowest, bit_at-suc, bit_at-zero}
-use Rattle.register_core.specs.Row.{bits_after}
-use Rattle.register_core.specs.Word.{digit, digit_writes, word_writes}
 use Rattle.register_core.proofs.Rows.{bits_after-append}
 
 -- ---- items and their digits
@@ -15,9 +13,6 @@ digit-half i item = ap (λ x. x == 1) (sym (bit_at-suc item i))
 pub digit_of_zero : (i : ℕ) → digit i 0 ≡ false
 digit_of_zero i = ap (λ x. x == 1) (bit_at-zero i)
 
-same_low : (x y : ℕ) → x < 2 → y < 2 → (x == 1) ≡ (y == 1) → x ≡ y
-same_low x y h1 h2 h3 = grind arith
-
 -- items of a width are distinguished by their digits
 pub same_item : (width a b : ℕ) → a < 2 ^ width → b < 2 ^ width → ((i : ℕ) → i < width → digit i a ≡ digit i b) → a ≡ b
 same_item zero a b l m same = omega arith
@@ -25,7 +20,7 @@ same_item (suc width) a b l m same =
     let high : a / 2 ≡ b / 2 =
     same_item width (a / 2) (b / 2) (omega (arith, pow-suc 2 width)) (omega (arith, pow-suc 2 width)) (λ i k. digit-half i a ∙ same (suc i) (omega arith) ∙ sym (digit-half i b)) in
     let lowest : (a % 2 == 1) ≡ (b % 2 == 1) = sym (ap (λ x. x == 1) (bit_at_lowest a)) ∙ same 0 (omega arith) ∙ ap (λ x. x == 1) (bit_at_lowest b) in
-    let low : a % 2 ≡ b % 2 = same_low (a % 2) (b % 2) (omega arith) (omega arith) lowest in
+    let low : a % 2 ≡ b % 2 = grind arith in
     omega arith
 
 -- ---- how many writes there are, and which

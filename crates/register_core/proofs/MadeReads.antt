@@ -1,16 +1,9 @@
 -- The reads of a side are those of the accesses that it made.
 use Rattle.std.proofs.Common.{◌≡◌, ℕ, zero, suc, ◌+◌, ◌*◌, ◌<◌, Bool, true, false, Some, List, [], ◌∷◌, ◌++◌, length, append_assoc, sym, ap, subst, ◌∙◌, arith, inl, inr}
-use Rattle.std.proofs.lemmas.Bool.{cases_lt}
+use Rattle.register_core.proofs.Common.{cases_lt, Side, C, Bit, Cell, Event, IsRead, row_bit}
 use Rattle.std.specs.Prelude.{slice_get}
-use Rattle.bits_core.specs.declared.events.Side.{Side}
-use Rattle.bits_core.specs.declared.events.Side.TheVariants.{C}
-use Rattle.bits_core.specs.declared.events.Bit.{Bit}
-use Rattle.bits_core.specs.declared.events.Bit.TheVariants.{Cell}
-use Rattle.bits_core.specs.declared.events.Event.{Event}
 use Rattle.bits_core.specs.Bits.{other}
-use Rattle.bits_core.specs.Intervals.{IsRead}
 use Rattle.bits_core.specs.Made.{Made, Read, events_of, subhistory, place_of, IsPrefix}
-use Rattle.register_core.specs.Row.{row_bit}
 use Rattle.register_core.specs.Word.{digit, digit_reads}
 use Rattle.register_core.specs.ScanState.{zero_reads, scan_phrase, row_read_by}
 use Rattle.register_core.specs.MadeReads.{begin_place, end_place, ScansAreMade, ZerosAreMade, WordReadsAreMade}
@@ -74,8 +67,7 @@ zeros-are_made s h made follows before after n is l = record {
 pub scans-are_made : ScansAreMade
 scans-are_made s h made follows before after c is l =
     let row : ℕ → Bit = row_read_by s in
-    let zeros : made ≡ before ++ (zero_reads row c ++ (Read (row c) true ∷ after)) =
-    is ∙ ap (λ l. before ++ l) (append_assoc (zero_reads row c) (Read (row c) true ∷ []) after) in
+    let zeros : made ≡ before ++ (zero_reads row c ++ (Read (row c) true ∷ after)) = grind (arith, append_assoc) in
     record {
       zeros = zeros-are_made s h made follows before (Read (row c) true ∷ after) c zeros (omega arith);
       one = subst (λ t. IsRead h t (row_bit (other s) c) (begin_place s h (length before) c) (end_place s h (length before) c) true) (sym (other_other s))

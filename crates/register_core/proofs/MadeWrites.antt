@@ -1,25 +1,12 @@
 -- The writes of a side are those of the accesses that it made.
 use Rattle.std.proofs.Common.{arith, ◌≡◌, ℕ, suc, Bool, true, false, Option, Some, None, List, [], ◌∷◌, ◌++◌, filter_map, slice_get, refl, sym, ap, ◌∙◌}
-use Rattle.std.specs.List.{cons_option}
-use Rattle.std.proofs.lemmas.Option.{none-some}
+use Rattle.register_core.proofs.Common.{cons_option, none-some, Side, P, Bit, Cell, Event, Shape, IsLawful, RowWrite, row_bit, writes_in, word_writes, cell_write, logical_writes, writes_of}
+use Rattle.register_core.proofs.Common.{count_write}
 use Rattle.std.proofs.lemmas.List.Elements.{filter_map-append}
-use Rattle.bits_core.specs.declared.events.Side.{Side}
-use Rattle.bits_core.specs.declared.events.Side.TheVariants.{P}
-use Rattle.bits_core.specs.declared.events.Bit.{Bit}
-use Rattle.bits_core.specs.declared.events.Bit.TheVariants.{Cell}
 use Rattle.bits_core.specs.declared.events.Access.TheVariants as access
-use Rattle.bits_core.specs.declared.events.Event.{Event}
-use Rattle.bits_core.specs.declared.shapes.Shape.{Shape}
 use Rattle.bits_core.specs.Bits.{writer, is_by, begun_by, write_of}
-use Rattle.bits_core.specs.Lawful.{IsLawful}
 use Rattle.bits_core.specs.Made.{Made, Write, begin_event, events_of, subhistory, IsPrefix}
-use Rattle.register_core.specs.Row.{RowWrite, row_bit, writes_in}
-use Rattle.register_core.specs.Word.{word_writes}
-use Rattle.register_core.specs.WordLaw.{cell_write}
-use Rattle.register_core.specs.BitLaw.{logical_writes}
 use Rattle.register_core.specs.BitState.{writes_to}
-use Rattle.register_core.specs.Unary.{writes_of}
-use Rattle.register_core.specs.UnaryLaw.{count_write}
 use Rattle.register_core.specs.MadeWrites.{made_writes, CellWritesAreMade, CountWritesAreMade, BitWritesAreMade, WordsWrite, CountsWrite, BitsWrite, PartsWrite}
 use Rattle.register_core.proofs.Writes.{write_of-from, write_of-to, by_writer}
 use Rattle.register_core.proofs.Turns.{BeginsWrites}
@@ -89,8 +76,5 @@ bits_same b (v ∷ values) = grind (arith, write_of-to, (bits_same b values))
 pub bits-write : BitsWrite
 bits-write b first values = bits_same b (logical_writes first values)
 
-in_parts : {W : Type 0} (begins : Event → Option W) (s : Side) (xs ys : List Made) → made_writes begins s (xs ++ ys) ≡ made_writes begins s xs ++ made_writes begins s ys
-in_parts begins s xs ys = filter_map-append (λ x. begins (begin_event s x)) xs ys
-
 pub parts-write : PartsWrite
-parts-write xs ys = grind (arith, in_parts)
+parts-write xs ys = grind (arith, filter_map-append)

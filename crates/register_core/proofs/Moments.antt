@@ -1,9 +1,8 @@
 -- The bits of a row at each moment, and the unary write that each change of a bit is of.
 use Rattle.std.proofs.Common.{◌≡◌, ℕ, zero, suc, ◌+◌, ◌-◌, ◌<◌, ◌≤◌, Bool, true, false, cond, not, List, [], ◌∷◌, ◌++◌, length, take, leb, refl, sym, ap, subst, arith, zero-le, suc-le-suc, ◌∙◌, ◌⊎◌, inl, inr}
-use Rattle.std.proofs.lemmas.Bool.Decides.{nat_tests}
+use Rattle.register_core.proofs.Common.{nat_tests, RowWrite, bits_with, bits_after}
 use Rattle.std.proofs.lemmas.Bool.{cases_lt, leb-true}
 use Rattle.std.proofs.Math.Seq.{take-append-add}
-use Rattle.register_core.specs.Row.{RowWrite, bits_with, bits_after}
 use Rattle.register_core.specs.Unary.{UnaryWrite, unary_writes, row_writes, having_writes, numbered_value, ended, begun_writes}
 use Rattle.register_core.proofs.Rows.{bits_after-append}
 use Rattle.register_core.proofs.Phrase.{Shows, Allowed, Run, phrase-run}
@@ -18,16 +17,10 @@ pub Run-shows : (v : ℕ) (bits : ℕ → Bool) (writes : List RowWrite) → Run
 Run-shows v bits [] run = run
 Run-shows v bits (w ∷ writes) run = Run-shows v (bits_with bits w) writes run.1
 
-numbered_step :
-    (v w : ℕ) (bits : ℕ → Bool) (writes : List RowWrite) (values : List ℕ) → Shows v bits → Run w bits writes →
-    ((v' : ℕ) (bits' : ℕ → Bool) → Shows v' bits' → Chain v' bits' (having_writes (unary_writes bits' values))) →
-    Chain v bits (having_writes (record { value = w; writes = writes } ∷ unary_writes (bits_after bits writes) values))
-numbered_step v w bits writes values h1 h2 h3 = grind (arith, Run-shows)
-
 pub numbered-chain :
     (values : List ℕ) (v : ℕ) (bits : ℕ → Bool) → Shows v bits → Chain v bits (having_writes (unary_writes bits values))
 numbered-chain [] v bits shows = shows
-numbered-chain (w ∷ values) v bits shows = grind (arith, numbered_step, phrase-run, (numbered-chain values))
+numbered-chain (w ∷ values) v bits shows = grind (arith, Run-shows, phrase-run, (numbered-chain values))
 
 numbered_writes : (w : ℕ) (writes : List RowWrite) (us : List UnaryWrite) →
     row_writes (having_writes us) ≡ row_writes us →
@@ -103,13 +96,10 @@ later :
     (u : UnaryWrite) (us : List UnaryWrite) (v : ℕ) (bits : ℕ → Bool) (t i : ℕ) (x : Bool) →
     ChangeAt u.value (bits_after bits u.writes) us t i x → ChangeAt v bits (u ∷ us) (length u.writes + t) i x
 later u us v bits t i x rest old new =
-    let a : bits_of bits (u ∷ us) (length u.writes + t) ≡ bits_of (bits_after bits u.writes) us t =
-    bits_of-later u us bits t in
+    let a : bits_of bits (u ∷ us) (length u.writes + t) ≡ bits_of (bits_after bits u.writes) us t = grind (arith, bits_of-later) in
     let s : suc (length u.writes + t) ≡ length u.writes + suc t = omega arith in
-    let b : bits_of bits (u ∷ us) (suc (length u.writes + t)) ≡ bits_of (bits_after bits u.writes) us (suc t) =
-    ap (λ k. bits_of bits (u ∷ us) k) s ∙ bits_of-later u us bits (suc t) in
-    let n : begun_writes us (suc t) ≡ begun_writes us (suc (length u.writes + t) - length u.writes) =
-    ap (λ k. begun_writes us k) (omega arith) in
+    let b : bits_of bits (u ∷ us) (suc (length u.writes + t)) ≡ bits_of (bits_after bits u.writes) us (suc t) = grind (arith, bits_of-later u us bits (suc t)) in
+    let n : begun_writes us (suc t) ≡ begun_writes us (suc (length u.writes + t) - length u.writes) = grind arith in
     subst (λ k. Changes k (bits_of bits (u ∷ us) (length u.writes + t)) i x) (ap (λ k. numbered_value u.value us k) n)
     (subst (λ f. Changes (numbered_value u.value us (begun_writes us (suc t))) f i x) (sym a)
     (rest (ap (λ f. f i) (sym a) ∙ old) (ap (λ f. f i) (sym b) ∙ new)))
@@ -156,13 +146,7 @@ pub Chain-rest : (us : List UnaryWrite) (v : ℕ) (bits : ℕ → Bool) (a : ℕ
 Chain-rest [] v bits a chain = record { moment = 0; in_time = zero-le; ended_then = zero-le; shows = chain }
 Chain-rest (u ∷ us) v bits a chain = grind (arith, leb, rest_step, (Chain-rest us u.value (bits_after bits u.writes) (a - length u.writes) chain.3), chain.0, chain.3, u.value, u.writes)
 
-ended_begun_step :
-    (u : UnaryWrite) (us : List UnaryWrite) (t : ℕ) → 0 < length u.writes →
-    ended us (t - length u.writes) ≤ begun_writes us (t - length u.writes) → (b : Bool) → leb (length u.writes) t ≡ b →
-    ended (u ∷ us) t ≤ begun_writes (u ∷ us) t
-ended_begun_step u us t h1 h2 b h3 = grind (arith, ended-later, ended-none, leb-true)
-
 pub ended-begun :
     (us : List UnaryWrite) (v : ℕ) (bits : ℕ → Bool) (t : ℕ) → Chain v bits us → ended us t ≤ begun_writes us t
 ended-begun [] v bits t chain = zero-le
-ended-begun (u ∷ us) v bits t chain = grind (arith, ended_begun_step, leb, (ended-begun us u.value (bits_after bits u.writes) (t - length u.writes) chain.3), chain.2, chain.3, u.value, u.writes)
+ended-begun (u ∷ us) v bits t chain = grind (arith, ended-later, ended-none, leb-true, leb, (ended-begun us u.value (bits_after bits u.writes) (t - length u.writes) chain.3), chain.2, chain.3, u.value, u.writes)

@@ -1,22 +1,15 @@
 -- What the events of a history begin, numbered by how many others began before it.
 use Rattle.std.proofs.Common.{◌≡◌, ℕ, zero, suc, ◌<◌, ◌≤◌, true, false, cond, ◌||◌, List, [], ◌∷◌, length, take, drop, Option, Some, None, filter_map, slice_get, refl, ap, arith, ◌∙◌, inl, inr, append_assoc, length-append, take-append-drop, take_at}
-use Rattle.std.specs.List.{cons_option}
-use Rattle.std.proofs.lemmas.Bool.{cases_lt}
+use Rattle.register_core.proofs.Common.{cons_option, cases_lt, Side, Event, IsPrefix}
 use Rattle.std.proofs.lemmas.List.Elements.{filter_map-append}
-use Rattle.bits_core.specs.declared.events.Side.{Side}
-use Rattle.bits_core.specs.declared.events.Event.{Event}
 use Rattle.bits_core.specs.Bits.{is_by}
 use Rattle.bits_core.specs.History.{has_event, before_last}
 use Rattle.bits_core.specs.Intervals.{first_place, end_of}
-use Rattle.bits_core.specs.Made.{IsPrefix}
 use Rattle.bits_core.proofs.IntervalLemmas.{none-first_place as none_within}
 use Rattle.bits_core.proofs.Histories.{before_last-none as before_last-empty}
 pub use Rattle.bits_core.proofs.Places.{slice_get-append as slice_get-begin}
 
 -- ---- the events before a side's last one
-
-pub before_last-more : (s : Side) (x : Event) (k : List Event) → has_event s k ≡ true → before_last s (x ∷ k) ≡ x ∷ before_last s k
-before_last-more s x k e = ap (λ b. cond b (x ∷ before_last s k) []) e
 
 pub before_last-none : (s : Side) (x : Event) (k : List Event) → has_event s k ≡ false → before_last s (x ∷ k) ≡ []
 before_last-none s x k e = ap (λ b. cond b (x ∷ before_last s k) []) e
@@ -130,7 +123,7 @@ module _ {W : Type 0} (begins : Event → Option W) where
   pub ended_more : (s : Side) (h : List Event) (p q : ℕ) (e : Event) (w : W) → slice_get h p ≡ Some e → begins e ≡ Some w → end_of s h p < q → q ≤ length h → begun h p < ended s h q
   ended_more s h p zero e w at b l fits = absurd (omega arith)
   ended_more s [] p (suc q) e w at b l fits = absurd (omega arith)
-  ended_more s (x ∷ h) zero (suc q) e w at b l fits = grind (arith, before_last-more, filter_map, some_within)
+  ended_more s (x ∷ h) zero (suc q) e w at b l fits = grind (arith, filter_map, some_within)
   ended_more s (x ∷ h) (suc p) (suc q) e w at b l fits = grind (arith, before_last-empty, cons_lt, end_of-suc, filter_map, (ended_more s h p q e w))
 
   pub ended_le_begun : (s : Side) (h : List Event) (p : ℕ) → ended s h p ≤ begun h p

@@ -1,7 +1,6 @@
 -- The bit writes of one unary write: the bits that each finds, and the bits that they leave.
 use Rattle.std.proofs.Common.{◌≡◌, ℕ, zero, suc, ◌<◌, ◌≤◌, Bool, true, false, not, cond, List, [], ◌∷◌, ◌++◌, refl, arith, zero-le, eq-or-lt_of_le}
-use Rattle.register_core.specs.Row.{RowWrite, bits_with}
-use Rattle.register_core.specs.Unary.{clearing, unary_phrase}
+use Rattle.register_core.proofs.Common.{RowWrite, bits_with, clearing, unary_phrase}
 use Rattle.register_core.proofs.Rows.{other_bit, same_bit}
 
 -- the bits show the value v
@@ -29,21 +28,9 @@ ClearsFrom j v old =
     (bits : ℕ → Bool) → ((k : ℕ) → k < j → bits k ≡ old k) → ((k : ℕ) → j ≤ k → k < v → bits k ≡ false) →
     bits v ≡ true → Run v bits (clearing old j)
 
-clearing_step :
-    (j v : ℕ) (old : ℕ → Bool) → suc j ≤ v → ClearsFrom j v old → (b : Bool) → old j ≡ b →
-    (bits : ℕ → Bool) → ((k : ℕ) → k < suc j → bits k ≡ old k) →
-    ((k : ℕ) → suc j ≤ k → k < v → bits k ≡ false) → bits v ≡ true →
-    Run v bits (cond b (record { bit = j; value = false } ∷ clearing old j) (clearing old j))
-clearing_step j v old h1 h2 b h3 bits h4 h5 h6 = grind (arith, eq-or-lt_of_le, other_bit, same_bit)
-
 clearing-run : (j v : ℕ) (old : ℕ → Bool) → j ≤ v → ClearsFrom j v old
 clearing-run zero v old fits bits same clear set = record { below = λ k h. clear k zero-le h; here = set }
-clearing-run (suc j) v old fits bits same clear set = grind (arith, clearing_step, (clearing-run j v old (omega arith)))
-
-phrase_cases :
-    (bits : ℕ → Bool) (v : ℕ) (b : Bool) → bits v ≡ b →
-    Run v bits (cond b [] (record { bit = v; value = true } ∷ []) ++ clearing bits v)
-phrase_cases bits v b h1 = grind (arith, clearing-run, other_bit, same_bit)
+clearing-run (suc j) v old fits bits same clear set = grind (arith, eq-or-lt_of_le, other_bit, same_bit, (clearing-run j v old (omega arith)))
 
 pub phrase-run : (bits : ℕ → Bool) (v : ℕ) → Run v bits (unary_phrase bits v)
-phrase-run bits v = phrase_cases bits v (bits v) refl
+phrase-run bits v = grind (arith, clearing-run, other_bit, same_bit)

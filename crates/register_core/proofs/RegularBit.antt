@@ -1,23 +1,14 @@
 -- A bit whose writer makes logical writes is regular.
 use Rattle.std.proofs.Common.{◌≡◌, ◌≢◌, ℕ, zero, suc, ◌<◌, ◌≤◌, Bool, true, false, List, [], ◌∷◌, length, take, Some, slice_get, refl, sym, ap, subst, arith, ◌∙◌, ◌⊎◌, inl, inr}
-use Rattle.std.proofs.lemmas.Bool.{cases_lt}
-use Rattle.std.proofs.lemmas.List.{take-append-le}
-use Rattle.std.proofs.lemmas.Option.{slice_get_within}
-use Rattle.bits_core.specs.declared.events.Side.{Side}
-use Rattle.bits_core.specs.declared.events.Bit.{Bit}
-use Rattle.bits_core.specs.declared.events.Act.TheVariants.{ReadEnd}
+use Rattle.register_core.proofs.Common.{cases_lt, take-append-le, slice_get_within, Side, Bit, ReadEnd, Event, Shape, IsLawful, held_is_by_interval}
 use Rattle.bits_core.specs.declared.events.Access.TheVariants.{Write}
-use Rattle.bits_core.specs.declared.events.Event.{Event}
-use Rattle.bits_core.specs.declared.shapes.Shape.{Shape}
 use Rattle.bits_core.specs.Bits.{writer, first_value, begun_by, write_of}
 use Rattle.bits_core.specs.History.{writes_begun, last_value, held}
 use Rattle.bits_core.specs.Intervals.{end_of, IsRead, IsWrite, IsHeld, HasOverlap}
-use Rattle.bits_core.specs.Lawful.{IsLawful}
 use Rattle.register_core.specs.BitLaw.{logical_writes, WritesLogically, IsOverlapping, IsFirstOverlapping, IsRegularAnswer, BitIsRegular}
 use Rattle.register_core.proofs.Numbers.{IsNumbered, begun, ended, begun_at, begun_rises, begun_least, numbered, ended_le, ended_more, take-ended, all_ended, slice_get-begin}
 use Rattle.register_core.proofs.Writes.{write_of-from, write_of-to, by_writer, begins_before}
 use Rattle.register_core.proofs.Turns.{each_ended}
-use Rattle.bits_core.proofs.LawLemmas.{held_is_by_interval}
 
 -- a logical write writes a value other than the one before it
 logical_changes : (values : List Bool) (v : Bool) (n : ℕ) (x : Bool) → slice_get (logical_writes v values) n ≡ Some x → x ≢ last_value v (take n (logical_writes v values))

@@ -1,15 +1,12 @@
 -- The writes to the bits of a row that the events of a history begin.
 use Rattle.std.proofs.Common.{arith, ◌≡◌, ℕ, Bool, false, cond, nat_eq, List, [], ◌∷◌, Option, Some, None, filter_map, refl, sym, ap, ◌∙◌, inl, inr}
-use Rattle.std.specs.List.{cons_option}
+use Rattle.register_core.proofs.Common.{cons_option, Bit, Event, last_value}
 use Rattle.std.proofs.lemmas.Bool.{cases_eq, eq-eqb, ne_eqb, false_from_ne_true}
 use Rattle.std.proofs.lemmas.Option.{none-some, same_Some}
-use Rattle.bits_core.specs.declared.events.Bit.{Bit}
 use Rattle.bits_core.specs.declared.events.Act.{Act}
 use Rattle.bits_core.specs.declared.events.Act.TheVariants.{ReadBegin, ReadEnd, WriteBegin, WriteEnd}
 use Rattle.bits_core.specs.declared.events.Access.TheVariants.{Write}
-use Rattle.bits_core.specs.declared.events.Event.{Event}
 use Rattle.bits_core.specs.Bits.{same_bit, begun_access, begun_by, value_written, write_of}
-use Rattle.bits_core.specs.History.{last_value}
 use Rattle.register_core.specs.Row.{RowWrite, bits_with, bits_after, row_write}
 use Rattle.register_core.proofs.Writes.{same_bit-true, same_bit-same}
 

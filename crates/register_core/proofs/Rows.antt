@@ -1,7 +1,6 @@
 -- The bits of a row after writes.
 use Rattle.std.proofs.Common.{◌≡◌, ℕ, Bool, cond, List, [], ◌∷◌, ◌++◌, nat_eq, refl, arith}
-use Rattle.std.proofs.lemmas.Bool.Decides.{nat_tests}
-use Rattle.register_core.specs.Row.{RowWrite, bits_with, bits_after}
+use Rattle.register_core.proofs.Common.{nat_tests, RowWrite, bits_with, bits_after}
 
 pub other_bit : (bits : ℕ → Bool) (k j : ℕ) (b : Bool) → (k ≡ j → ⊥) → cond (nat_eq k j) b (bits k) ≡ bits k
 other_bit bits k j b h = grind (arith, nat_tests)

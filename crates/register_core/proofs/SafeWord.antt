@@ -1,26 +1,14 @@
 -- A word read that no word write of its cell overlaps gives the item last written.
 use Rattle.std.proofs.Common.{◌≡◌, ℕ, zero, suc, ◌+◌, ◌-◌, ◌*◌, ◌/◌, ◌^◌, ◌<◌, ◌≤◌, All, Bool, false, List, length, take, Some, slice_get, slice_index_or, refl, sym, ap, subst, arith, ◌∙◌, ◌⊎◌, inl, inr, length-append, take_all, suc-mul, mul-le-mul_right, le_of_mul-le-mul_right, div-mul-le_self, mod-lt, div-add-mod'}
-use Rattle.std.proofs.lemmas.Bool.{cases_lt}
-use Rattle.std.proofs.lemmas.List.{take-append-le}
+use Rattle.register_core.proofs.Common.{cases_lt, take-append-le, P, C, Cell, ReadEnd, Event, Shape, begun_by, before_last, IsLawful, bits_after, digit, word_writes, held_is_by_interval}
 use Rattle.std.proofs.lemmas.Option.{same_Some, slice_get_within, slice_get-get_or}
-use Rattle.bits_core.specs.declared.events.Side.TheVariants.{P, C}
-use Rattle.bits_core.specs.declared.events.Bit.TheVariants.{Cell}
-use Rattle.bits_core.specs.declared.events.Act.TheVariants.{ReadEnd}
 use Rattle.bits_core.specs.declared.events.Access.TheVariants.{Write}
-use Rattle.bits_core.specs.declared.events.Event.{Event}
-use Rattle.bits_core.specs.declared.shapes.Shape.{Shape}
-use Rattle.bits_core.specs.Bits.{begun_by}
-use Rattle.bits_core.specs.History.{before_last}
 use Rattle.bits_core.specs.Intervals.{end_of, HasOverlap, Overlap}
-use Rattle.bits_core.specs.Lawful.{IsLawful}
-use Rattle.register_core.specs.Row.{bits_after}
-use Rattle.register_core.specs.Word.{digit, word_writes}
 use Rattle.register_core.specs.WordLaw.{cell_write, cell_writes, WritesWords, IsDigitWrite, IsWordWrite, DigitsAreSafe, IsLastWord, IsReadEnd, NoWordEnded, ReadsDigits, WordIsSafe}
 use Rattle.register_core.proofs.Numbers.{IsNumbered, begun, ended, begun_at, begun_rises, begun_least, numbered, ended_le, ended_more, ended_le_begun, take-ended, has_ended, ended_rises}
 use Rattle.register_core.proofs.Writes.{by_writer, begins_before}
 use Rattle.register_core.proofs.Items.{digit_of_zero, same_item, length-word_writes, take-word_writes, words_left}
 use Rattle.register_core.proofs.Cells.{clear_bits, held_digit, cell_write-to, cell_write-from}
-use Rattle.bits_core.proofs.LawLemmas.{held_is_by_interval}
 
 -- a word write that began before a place
 record BegunWord (width j : ℕ) (h : List Event) (q n : ℕ) : Type 0 where
@@ -194,11 +182,7 @@ module _ (shape : Shape) (h : List Event) (lawful : IsLawful shape h) (width j :
           number = n;
           start = first.numbered.place;
           stop = end_of P h final.numbered.place;
-          write = record {
-            first_stop = end_of P h first.numbered.place;
-            first = digit_write shape h lawful width j (start 0) (n * width) first.numbered;
-            last = inl (final.numbered.place, digit_write shape h lawful width j (start 0) (n * width + (width - 1)) final.numbered);
-          };
+          write = grind (arith, digit_write shape h lawful width j (start 0) (n * width) first.numbered, digit_write shape h lawful width j (start 0) (n * width + (width - 1)) final.numbered);
           ended = final.ended;
           last = λ m s t w l. omega (arith, word_below (suc n) all_ended all_begun m s t w l);
           writes = last;
@@ -209,7 +193,6 @@ module _ (shape : Shape) (h : List Event) (lawful : IsLawful shape h) (width j :
   pub safe_digits : Told
   safe_digits =
       let n : ℕ = had_ended / width in
-      let low : n * width ≤ had_ended = div-mul-le_self had_ended width in
       let high : had_ended < n * width + width = omega (arith, mod-lt had_ended wide, div-add-mod' had_ended width) in
       let few : had_begun ≤ n * width = begun_le n high in
       safe_by_words n (omega (arith, ended_le_had_begun)) (omega (arith, ended_le_had_begun))

@@ -1,7 +1,6 @@
 -- A scan continues from the accesses that it made.
 use Rattle.std.proofs.Common.{◌≡◌, ℕ, zero, suc, ◌<◌, Bool, true, false, List, [], ◌∷◌, ◌++◌, length, length-append, append-nil, refl, ap, ◌∙◌, arith}
-use Rattle.bits_core.specs.declared.events.Bit.{Bit}
-use Rattle.bits_core.specs.Made.{Made, Read}
+use Rattle.register_core.proofs.Common.{Bit, Made, Read}
 use Rattle.register_core.specs.ScanState.{zero_reads, BeginsScan}
 
 pub length-zeros : (row : ℕ → Bit) (n : ℕ) → length (zero_reads row n) ≡ n

@@ -2,18 +2,14 @@
 use Rattle.std.proofs.Common.{rules, None, Some, ◌≡◌, ℕ, zero, suc, ◌<◌, ◌≤◌, Bool, true, false, cond, List, [], ◌∷◌, ◌++◌, Option, length, replicate, slice_set, refl, sym, ap, subst, arith, ◌∙◌, append_assoc, append-nil, get_or-set_same, get_or-set_other, length-set}
 use Rattle.std.proofs.Math.Path.{fun_ext}
 use Rattle.std.proofs.Math.Dec.{eqb-suc-zero}
-use Rattle.std.proofs.lemmas.List.{map-append}
+use Rattle.register_core.proofs.Common.{map-append, Side, Bit, Access, RowWrite, row_bit, first_bits, bits_with, bits_after, writes_in}
 use Rattle.std.proofs.lemmas.Bool.{cases_eq}
-use Rattle.bits_core.specs.declared.events.Side.{Side}
-use Rattle.bits_core.specs.declared.events.Bit.{Bit}
-use Rattle.bits_core.specs.declared.events.Access.{Access}
 use Rattle.bits_core.specs.Made.{Made, Write, answered}
-use Rattle.register_core.specs.Row.{RowWrite, row_bit, first_bits, bits_with, bits_after, writes_in}
 use Rattle.register_core.specs.Machine.{IsNext}
 use Rattle.register_core.specs.Unary.{clearing, unary_phrase, unary_writes, row_writes, count_writes}
 use Rattle.register_core.specs.UnaryState.{UnaryState, bit_in, new_row, due_writes, first_access, due_unary, row_with, row_fed, UnaryStands}
 use Rattle.register_core.proofs.Rows.{other_bit, same_bit, bits_after-append}
-use Rattle.register_core.proofs.Due.{clearing-set, clearing-clear, unary_phrase-clear, unary_phrase-set}
+use Rattle.register_core.proofs.Due.{clearing-set, clearing-clear}
 
 -- Only the bits below the place matter.
 clearing-same : (f g : ℕ → Bool) (j : ℕ) → ((k : ℕ) → k < j → f k ≡ g k) → clearing f j ≡ clearing g j
@@ -63,7 +59,7 @@ record GoesOn (bits : ℕ → Bool) (v : ℕ) (x : RowWrite) (rest : List RowWri
   left : unary_phrase (bits_with bits x) v ≡ rest
 
 phrase-first : (bits : ℕ → Bool) (v : ℕ) (x : RowWrite) (rest : List RowWrite) → unary_phrase bits v ≡ x ∷ rest → GoesOn bits v x rest
-phrase-first bits v x rest e = search (rules, clearing-first, clearing-same, first_is, other_bit, same_bit, unary_phrase-clear, unary_phrase-set, x.bit, x.value)
+phrase-first bits v x rest e = search (rules, clearing-first, clearing-same, first_is, other_bit, same_bit, x.bit, x.value)
 
 -- The bits of a list after a write in it.
 bit_in-set : (bits : List Bool) (x : RowWrite) → x.bit < length bits →
@@ -112,19 +108,10 @@ stands-fed w values made x rest e s =
     let here : x.bit < length w.bits = omega (arith, p.fits, s.within) in
     let new : bit_in (slice_set w.bits x.bit x.value) ≡ bits_with (bit_in w.bits) x = bit_in-set w.bits x here in
     let old : bit_in w.bits ≡ bits_after first_bits s.writes = fun_ext s.remembered in
-    let then : bit_in (slice_set w.bits x.bit x.value) ≡ bits_after first_bits (s.writes ++ x ∷ []) =
-    new ∙ ap (λ f. bits_with f x) old ∙ sym (bits_after-append s.writes (x ∷ []) first_bits) in
-    let left : unary_phrase (bit_in (slice_set w.bits x.bit x.value)) w.value ≡ rest =
-    ap (λ f. unary_phrase f w.value) new ∙ p.left in
-    let fed_state : UnaryStands (row_with w (x ∷ rest)) values (made ++ Write (row_bit w.side x.bit) x.value ∷ []) = record {
-      writes = s.writes ++ x ∷ [];
-      made_is = ap (λ l. l ++ Write (row_bit w.side x.bit) x.value ∷ []) s.made_is ∙ sym (one_more (row_bit w.side) s.writes x);
-      within = omega (arith, length-set w.bits x.bit x.value, s.within);
-      remembered = λ i. ap (λ f. f i) then;
-      goes_on =
-          s.goes_on ∙ ap (λ d. s.writes ++ d) e ∙ sym (append_assoc s.writes (x ∷ []) rest) ∙
-          ap (λ d. (s.writes ++ x ∷ []) ++ d) (sym left);
-    } in
+    let then : bit_in (slice_set w.bits x.bit x.value) ≡ bits_after first_bits (s.writes ++ x ∷ []) = grind (arith, bits_after-append) in
+    let left : unary_phrase (bit_in (slice_set w.bits x.bit x.value)) w.value ≡ rest = search arith in
+    let fed_state : UnaryStands (row_with w (x ∷ rest)) values (made ++ Write (row_bit w.side x.bit) x.value ∷ []) =
+    grind (arith, row_bit w.side x.bit, row_bit w.side, one_more (row_bit w.side) s.writes x, length-set w.bits x.bit x.value, append_assoc s.writes (x ∷ []) rest) in
     subst (λ ws. UnaryStands (row_with w ws) values (made ++ Write (row_bit w.side x.bit) x.value ∷ [])) (sym e) fed_state
 
 -- the first of the writes that are due continues with the writes of the values

@@ -1,14 +1,8 @@
 -- The writes of one side come one after the other.
 use Rattle.std.proofs.Common.{◌≡◌, ℕ, zero, suc, ◌<◌, ◌≤◌, Bool, List, length, Option, Some, slice_get, refl, sym, subst, arith, ◌∙◌, inl, inr}
-use Rattle.std.proofs.lemmas.Bool.{cases_lt}
-use Rattle.bits_core.specs.declared.events.Side.{Side}
-use Rattle.bits_core.specs.declared.events.Bit.{Bit}
+use Rattle.register_core.proofs.Common.{cases_lt, Side, Bit, Event, Shape, writer, begun_by, IsLawful}
 use Rattle.bits_core.specs.declared.events.Access.TheVariants.{Write}
-use Rattle.bits_core.specs.declared.events.Event.{Event}
-use Rattle.bits_core.specs.declared.shapes.Shape.{Shape}
-use Rattle.bits_core.specs.Bits.{writer, begun_by}
 use Rattle.bits_core.specs.Intervals.{end_of, IsOpenAt}
-use Rattle.bits_core.specs.Lawful.{IsLawful}
 use Rattle.register_core.proofs.Numbers.{begun, ended, numbered, ended_rises, all_ended}
 use Rattle.register_core.proofs.Writes.{by_writer, begins_alone}
 
@@ -29,8 +23,7 @@ module _ {W : Type 0} (begins : Event → Option W) (s : Side) (its : BeginsWrit
       elim (cases_lt (end_of s h q) p) [
         | inl l ↦ l
         | inr l ↦
-            let still : IsOpenAt h s (Write r'.0 r'.1) p =
-            (q, end_of s h q, record { event = e'; at_start = at'; by_side = begun_by_side q e' w' at' is'; begins = r'.2; ends = refl }, before, l) in
+            let still : IsOpenAt h s (Write r'.0 r'.1) p = grind (arith, begun_by_side) in
             absurd (begins_alone shape h lawful p e at (Write r.0 r.1) r.2 (Write r'.0 r'.1) (subst (λ t. IsOpenAt h t (Write r'.0 r'.1) p) (sym (begun_by_side p e w at is)) still))
       ]
 

@@ -1,18 +1,9 @@
 -- A scan of a unary register in a history, by the moments of its writer.
 use Rattle.std.proofs.Common.{◌≡◌, ℕ, suc, ◌<◌, ◌≤◌, Bool, true, false, List, length, take, slice_get, refl, sym, ap, subst, arith, ◌∙◌, inl, inr, eq-or-lt_of_le}
-use Rattle.std.proofs.lemmas.Bool.{cases_lt}
-use Rattle.std.proofs.lemmas.List.{take-append-le}
-use Rattle.std.proofs.lemmas.Option.{slice_get_within}
-use Rattle.bits_core.specs.declared.events.Side.{Side}
-use Rattle.bits_core.specs.declared.events.Act.TheVariants.{ReadEnd}
+use Rattle.register_core.proofs.Common.{cases_lt, take-append-le, slice_get_within, Side, ReadEnd, Event, Shape, IsLawful, RowWrite, row_bit, first_bits, bits_after, writes_of, held_is_by_interval}
 use Rattle.bits_core.specs.declared.events.Access.TheVariants.{Write}
-use Rattle.bits_core.specs.declared.events.Event.{Event}
-use Rattle.bits_core.specs.declared.shapes.Shape.{Shape}
 use Rattle.bits_core.specs.Bits.{other}
 use Rattle.bits_core.specs.Intervals.{IsAccess, IsRead, IsHeld, HasOverlap}
-use Rattle.bits_core.specs.Lawful.{IsLawful}
-use Rattle.register_core.specs.Row.{RowWrite, row_bit, first_bits, bits_after}
-use Rattle.register_core.specs.Unary.{writes_of}
 use Rattle.register_core.proofs.WriterMoments.{Windows, Answered, SafelyAnswered, ScannedTo}
 use Rattle.register_core.specs.UnaryLaw.{count_write, count_begun, count_ended, WritesUnary, ReadsZeros, UnaryIsRegular, UnaryHasOne}
 use Rattle.register_core.proofs.Numbers.{begun, ended, begun_at, begun_rises, begun_least, ended_le, ended_le_begun, ended_rises, take-ended, slice_get-begin}
@@ -20,7 +11,6 @@ use Rattle.register_core.proofs.Writes.{begins_before}
 use Rattle.register_core.proofs.Turns.{one_open}
 use Rattle.register_core.proofs.Counts.{row_writer, count_write-to, count_write-its, held_count}
 use Rattle.register_core.proofs.UnaryMoments.{moments-are_regular, moments-have_one, bits-are_regular}
-use Rattle.bits_core.proofs.LawLemmas.{held_is_by_interval}
 
 -- reads of the bits below the last that answer 0, and a read of the last bit
 module _ (shape : Shape) (h : List Event) (lawful : IsLawful shape h) (s : Side) (values : List ℕ) (writes : WritesUnary s h values) (last : ℕ) (start stop : ℕ → ℕ) (zeros : ReadsZeros s h last start stop) (answer : Bool) (final : IsRead h (other s) (row_bit s last) (start last) (stop last) answer) where
@@ -70,9 +60,7 @@ module _ (shape : Shape) (h : List Event) (lawful : IsLawful shape h) (s : Side)
   held_there : (i : ℕ) (v : Bool) → start i ≤ length h → IsHeld h (row_bit s i) (start i) v → SafelyAnswered (writes_of values) from till i v
   held_there i v fits is =
       let e : bits_after first_bits (take (from i) (writes_of values)) i ≡ v =
-      ap (λ ws. bits_after first_bits ws i) (first_writes i)
-      ∙ sym (held_count s i (take (start i) h))
-      ∙ sym ((held_is_by_interval shape h lawful (row_bit s i) (start i) fits v).0 is) in
+      grind (arith, first_writes i, held_count s i (take (start i) h), held_is_by_interval shape h lawful (row_bit s i) (start i) fits v, row_bit s i) in
       inl e
 
   answered : (i : ℕ) (v : Bool) → i ≤ last → IsRead h (other s) (row_bit s i) (start i) (stop i) v → Answered (writes_of values) from till i v

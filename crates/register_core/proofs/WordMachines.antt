@@ -1,13 +1,10 @@
 -- The machines of a word stand after what they made.
 use Rattle.std.proofs.Common.{◌≡◌, ℕ, suc, ◌<◌, Bool, Some, List, [], ◌∷◌, ◌++◌, append_assoc, refl, sym, ap, ◌∙◌, arith}
-use Rattle.std.proofs.lemmas.List.{map-append}
+use Rattle.register_core.proofs.Common.{map-append, Cell, Access, RowWrite, writes_in}
 use Rattle.std.proofs.Math.Nat.{pow-succ'}
 use Rattle.std.proofs.Math.Pow.{pow_mono}
-use Rattle.bits_core.specs.declared.events.Bit.TheVariants.{Cell}
-use Rattle.bits_core.specs.declared.events.Access.{Access}
 use Rattle.bits_core.specs.declared.events.Access.TheVariants as begins
 use Rattle.bits_core.specs.Made.{Made, Read, Write, answered}
-use Rattle.register_core.specs.Row.{RowWrite, writes_in}
 use Rattle.register_core.specs.Machine.{IsNext}
 use Rattle.register_core.specs.Word.{digit, digit_writes, word_write}
 use Rattle.register_core.specs.WordState.{ReaderState, ReaderStands, due_read, read_digit, BeginsRead}

@@ -1,15 +1,9 @@
 -- The events that begin a write of a bit, and their order with a read.
 use Rattle.std.proofs.Common.{◌≡◌, ℕ, ◌<◌, Bool, List, Some, None, slice_get, if◌then◌else◌, ap, arith, ◌∙◌}
-use Rattle.std.proofs.lemmas.Bool.{cases_lt}
-use Rattle.std.proofs.lemmas.Option.{none-some}
-use Rattle.bits_core.specs.declared.events.Side.{Side}
-use Rattle.bits_core.specs.declared.events.Bit.{Bit}
+use Rattle.register_core.proofs.Common.{cases_lt, none-some, Side, Bit, Access, Event, Shape}
 use Rattle.bits_core.specs.declared.events.Act.{Act}
 use Rattle.bits_core.specs.declared.events.Act.TheVariants.{ReadBegin, ReadEnd, WriteBegin, WriteEnd}
-use Rattle.bits_core.specs.declared.events.Access.{Access}
 use Rattle.bits_core.specs.declared.events.Access.TheVariants.{Write}
-use Rattle.bits_core.specs.declared.events.Event.{Event}
-use Rattle.bits_core.specs.declared.shapes.Shape.{Shape}
 use Rattle.bits_core.specs.Bits.{writer, begun_access, begun_by, value_written, write_of}
 use Rattle.bits_core.specs.Intervals.{IsAccess, IsRead, IsOpenAt}
 use Rattle.bits_core.specs.Lawful.{TakesTurn, IsLawful}

@@ -1,8 +1,6 @@
 use Rattle.std.proofs.Common.{arith, take, length, subst, sym, ◌≡◌, ap, ◌∙◌, refl}
-use Rattle.std.proofs.Math.Seq.{take-length}
-use Rattle.std.proofs.lemmas.List.{take_more}
+use Rattle.bits_core.proofs.Common.{take-length, take_more, IsLawful}
 use Rattle.bits_core.specs.Auditors.{HeardEvents}
-use Rattle.bits_core.specs.Lawful.{IsLawful}
 use Rattle.bits_core.proofs.FaultLemmas.{IsFirstFault-at, not_IsLawful}
 use Rattle.bits_core.proofs.LawfulLemmas.{IsLawful-to}
 use Rattle.bits_core.proofs.audits.audit_bits.Goals as goal

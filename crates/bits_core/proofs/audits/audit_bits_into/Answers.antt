@@ -1,17 +1,16 @@
 use Rattle.std.proofs.Common.{arith, take, subst, sym}
-use Rattle.std.proofs.lemmas.List.{take_more}
+use Rattle.bits_core.proofs.Common.{take_more, AreMarks}
 use Rattle.std.proofs.lemmas.Option.{slice_get-get_or}
-use Rattle.bits_core.specs.Marks.{AreMarks}
 use Rattle.bits_core.proofs.FaultLemmas.{IsFirstFault-at, HasReason-at}
 use Rattle.bits_core.proofs.LawfulLemmas.{IsLawful-to}
 use Rattle.bits_core.proofs.MarkLemmas.{IsInTable-belongs}
-use Rattle.bits_core.proofs.SeenLemmas.{AreSeen-more, AreSeen-none}
+use Rattle.bits_core.proofs.SeenLemmas.{AreSeen-more}
 use Rattle.bits_core.proofs.audits.audit_bits_into.Goals as goal
 
 pub loop-place-init : goal.loop-place-init
 loop-place-init c = record {
   marks = c.new-marks.ensures c.args.shape.now;
-  seen = AreSeen-none c.args.events.now c.args.seen.now;
+  seen = grind arith;
 }
 
 pub returns-in-Some-clause-verdict : goal.returns-in-Some-clause-verdict

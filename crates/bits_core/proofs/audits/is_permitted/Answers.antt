@@ -1,14 +1,7 @@
 use Rattle.std.proofs.Common.{◌≡◌, Bool, true, false, Some, None, List, refl, sym, subst, inl, inr, ◌∙◌, rules}
 use Rattle.std.specs.Prelude.{◌↔◌, ◌⊎◌, IsTrue, if◌then◌else◌}
 use mathlib.Core.Bool.{beq}
-use Rattle.bits_core.specs.declared.events.Act.{Act}
-use Rattle.bits_core.specs.declared.events.Act.TheVariants.{ReadBegin, ReadEnd, WriteBegin, WriteEnd}
-use Rattle.bits_core.specs.declared.events.Bit.{Bit}
-use Rattle.bits_core.specs.declared.events.Event.{Event}
-use Rattle.bits_core.specs.declared.events.Side.{Side}
-use Rattle.bits_core.specs.History.{held_at_begin, is_overlapped, open_access}
-use Rattle.bits_core.specs.Marks.{settled}
-use Rattle.bits_core.specs.Steps.{FitsOpen, IsAnswer, IsPermittedAct}
+use Rattle.bits_core.proofs.Common.{Act, ReadBegin, ReadEnd, WriteBegin, WriteEnd, Bit, Event, Side, held_at_begin, is_overlapped, open_access, settled, FitsOpen, IsAnswer, IsPermittedAct}
 use Rattle.bits_core.proofs.audits.is_permitted.Goals as goal
 
 same_bools : (v w : Bool) → IsTrue (beq v w) ↔ (v ≡ w)

@@ -1,6 +1,5 @@
 use Rattle.std.proofs.Common.{◌∙◌, true}
-use Rattle.std.proofs.Math.ListN.{set}
-use Rattle.std.proofs.lemmas.List.{length-set}
+use Rattle.bits_core.proofs.Common.{set, length-set}
 use Rattle.bits_core.proofs.MarkLemmas.{first_values-at}
 use Rattle.bits_core.proofs.marks.first_values.Goals as goal
 

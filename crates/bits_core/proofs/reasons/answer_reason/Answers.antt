@@ -1,7 +1,6 @@
 use Rattle.std.proofs.Common.{◌≡◌, ◌≤◌, Some, arith, length, sym}
 use Rattle.std.proofs.lemmas.List.{length-take-le}
-use Rattle.std.proofs.lemmas.Option.{slice_get_within}
-use Rattle.bits_core.specs.Marks.{settled}
+use Rattle.bits_core.proofs.Common.{slice_get_within, settled}
 use Rattle.bits_core.proofs.ReasonLemmas.{ends_read, held_there, none_open, settled_value}
 use Rattle.bits_core.proofs.reasons.answer_reason.Goals as goal
 

@@ -1,7 +1,6 @@
 use Rattle.std.proofs.Common.{List, arith, take, subst, sym}
 use Rattle.std.proofs.lemmas.List.{take_all, take_more}
-use Rattle.bits_core.specs.declared.events.Event.{Event}
-use Rattle.bits_core.specs.Marks.{AreMarks}
+use Rattle.bits_core.proofs.Common.{Event, AreMarks}
 use Rattle.bits_core.proofs.FaultLemmas.{IsFirstFault-at, not_IsLawful}
 use Rattle.bits_core.proofs.LawfulLemmas.{IsLawful-to}
 use Rattle.bits_core.proofs.reasons.marks_of.Goals as goal

@@ -1,9 +1,5 @@
 use Rattle.std.proofs.Common.{◌≡◌, Bool, false, List, Option, Some, ap, sym, ◌∙◌}
-use Rattle.std.specs.Prelude.{is_some}
-use Rattle.bits_core.specs.declared.events.Access.{Access}
-use Rattle.bits_core.specs.declared.events.Access.TheVariants.{Write}
-use Rattle.bits_core.specs.declared.events.Act.TheVariants.{WriteEnd}
-use Rattle.bits_core.specs.declared.events.Side.{Side}
+use Rattle.bits_core.proofs.Common.{is_some, Access, Write, WriteEnd, Side}
 use Rattle.bits_core.specs.declared.marks.SideMark.{SideMark}
 use Rattle.bits_core.specs.declared.marks.Marks.{Marks}
 use Rattle.bits_core.specs.Bits.{doer, other, value_written, writer}

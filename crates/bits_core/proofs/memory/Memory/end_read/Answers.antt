@@ -2,18 +2,12 @@ use Rattle.std.proofs.Common.{◌≡◌, ◌≤◌, ℕ, ◌+◌, ◌++◌, ◌�
 use Rattle.std.specs.Prelude.{◌↔◌, IsSome, if◌then◌else◌}
 use Rattle.std.proofs.lemmas.List.{length-append}
 use mir.Val.{bool_byte}
-use Rattle.bits_core.specs.declared.events.Event.{Event}
-use Rattle.bits_core.specs.declared.events.Access.TheVariants.{Read}
-use Rattle.bits_core.specs.declared.events.Act.TheVariants.{ReadEnd}
-use Rattle.bits_core.specs.declared.events.Bit.{Bit}
-use Rattle.bits_core.specs.declared.shapes.Shape.{Shape}
-use Rattle.bits_core.specs.History.{held_at_begin, is_overlapped, open_access}
-use Rattle.bits_core.specs.Marks.{AreMarks}
+use Rattle.bits_core.proofs.Common.{Event, Read, ReadEnd, Bit, Shape, held_at_begin, is_overlapped, open_access, AreMarks}
 use Rattle.bits_core.specs.Memory.{EndsOverlappedRead, IsRecord, MemoryState, held_for_read, is_read_overlapped, open_bit, with_answer}
 use Rattle.bits_core.specs.Open.{bit_of}
-use Rattle.bits_core.proofs.Flickers.{IsRecord-push, MayFollow-answer, flickers-le}
+use Rattle.bits_core.proofs.Flickers.{IsRecord-push, MayFollow-answer, count_below-le}
 use Rattle.bits_core.proofs.FlickerLaws.{ends_overlapped}
-use Rattle.bits_core.proofs.MarkLemmas.{answer-is, overlapped-is}
+use Rattle.bits_core.proofs.MarkLemmas.{answer-is}
 use Rattle.bits_core.proofs.memory.Memory.end_read.Given.{Over}
 use Rattle.bits_core.proofs.memory.Memory.end_read.Goals.{After-read_answer-answer}
 use Rattle.bits_core.proofs.memory.Memory.end_read.Goals as goal
@@ -60,10 +54,8 @@ pub overflow_add-self : goal.overflow_add-self
 overflow_add-self g c =
     let h : List Event = g.S.Store.items c.self.inside.events in
     let e : Event = record { side = c.args.side; bit = c.in-Some-Read.bit; act = ReadEnd c.read_answer-answer.result } in
-    let kept : c.self.inside.flickers ≤ length h = flickers-le c.self.inside.shape h c.self.inside.flickers c.self.invariant.0 in
     let items : g.S.Store.items c.add.new.self ≡ h ++ e ∷ [] = c.add.ensures.items ∙ ap (λ (t : List Event). t ++ e ∷ []) c.in_ok-reserve-in-Some-Read.ensures.items in
-    let count : c.event_count.result ≡ length h + 1 = c.event_count.ensures ∙ ap length items ∙ length-append h (e ∷ []) in
-    omega (arith, kept, c.from.ensures, byte-le c.is_none.result, count, c.event_count.type_inv)
+    omega (arith, count_below-le, c.self.invariant.0, c.from.ensures, byte-le c.is_none.result, c.event_count.ensures ∙ ap length items ∙ length-append h (e ∷ []), c.event_count.type_inv)
 
 pub invariant_of-self-in-Read-1 : goal.invariant_of-self-in-Read-1
 invariant_of-self-in-Read-1 g c =
@@ -76,7 +68,7 @@ invariant_of-self-in-Read-1 g c =
     let n : ℕ = c.self.inside.flickers in
     let asked = g.O.Oracle.answers c.args.oracle.now 0 in
     let e : Event = record { side = s; bit = b; act = ReadEnd v } in
-    let overlapped : c.is_none.result ≡ is_overlapped s b h = overlapped-is s b h c.settled-settled.result c.is_none.result (due g t) c.is_none.ensures in
+    let overlapped : c.is_none.result ≡ is_overlapped s b h = grind (arith, c.is_none.ensures) in
     let follows = MayFollow-answer shape h s b asked v c.self.invariant.0.lawful (still g t) (answered g t) in
     let counted : n + (if is_overlapped s b h then 1 else 0) ≡ n + c.from.result = ap (λ (k : ℕ). n + k) (ap (λ (t : Bool). if t then 1 else 0) (sym overlapped) ∙ sym (byte_is c.is_none.result) ∙ sym c.from.ensures) in
     let items : h ++ e ∷ [] ≡ g.S.Store.items c.add.new.self = sym (c.add.ensures.items ∙ ap (λ (t : List Event). t ++ e ∷ []) c.in_ok-reserve-in-Some-Read.ensures.items) in (
@@ -110,7 +102,7 @@ returns-clause-ok g c =
     let its_bit = its_bit g t in
     let v = c.read_answer-answer.result in
     let n : ℕ = c.self.inside.flickers in
-    let overlapped : c.is_none.result ≡ is_overlapped s b h = overlapped-is s b h c.settled-settled.result c.is_none.result (due g t) c.is_none.ensures in
+    let overlapped : c.is_none.result ≡ is_overlapped s b h = grind (arith, c.is_none.ensures) in
     let counted : n + c.from.result ≡ n + (if is_read_overlapped s h then 1 else 0) = ap (λ (k : ℕ). n + k) (c.from.ensures ∙ byte_is c.is_none.result ∙ ap (λ (t : Bool). if t then 1 else 0) overlapped ∙ ap (λ x. if is_overlapped s x h then 1 else 0) (sym its_bit)) in
     let e : Bit → Event = λ x. record { side = s; bit = x; act = ReadEnd v } in
     let items : g.S.Store.items c.add.new.self ≡ h ++ e (open_bit s h) ∷ [] = c.add.ensures.items ∙ ap (λ (t : List Event). t ++ e b ∷ []) c.in_ok-reserve-in-Some-Read.ensures.items ∙ ap (λ x. h ++ e x ∷ []) (sym its_bit) in

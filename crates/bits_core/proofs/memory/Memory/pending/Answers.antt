@@ -1,6 +1,5 @@
 use Rattle.std.proofs.Common.{subst, ap, ◌∙◌}
-use Rattle.bits_core.specs.History.{open_access}
-use Rattle.bits_core.specs.Lawful.{IsLawful}
+use Rattle.bits_core.proofs.Common.{open_access, IsLawful}
 use Rattle.bits_core.proofs.OpenAccesses.{open_right_some}
 use Rattle.bits_core.proofs.memory.Memory.pending.Goals as goal
 

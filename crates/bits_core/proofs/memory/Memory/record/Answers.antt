@@ -1,8 +1,5 @@
 use Rattle.std.proofs.Common.{◌≡◌, ◌++◌, ◌∷◌, [], List, ap, ◌∙◌, subst, sym}
-use Rattle.bits_core.specs.declared.events.Event.{Event}
-use Rattle.bits_core.specs.Marks.{AreMarks}
-use Rattle.bits_core.specs.Memory.{IsRecord}
-use Rattle.bits_core.specs.Steps.{MayFollow}
+use Rattle.bits_core.proofs.Common.{Event, AreMarks, IsRecord, MayFollow}
 use Rattle.bits_core.proofs.Flickers.{IsRecord-quiet}
 use Rattle.bits_core.proofs.memory.Memory.record.Goals as goal
 

@@ -1,7 +1,6 @@
 -- If the value's bit is set, the writer clears below the place, or is done.
 use Rattle.std.proofs.Common.{Some, None, ap, sym, ◌∙◌}
-use Rattle.register_core.specs.Row.{row_bit}
-use Rattle.register_core.specs.UnaryState.{UnaryState, first_access}
+use Rattle.register_core.proofs.Common.{row_bit, UnaryState, first_access}
 use Rattle.register_core.proofs.Due.{due-sets, due-clears, due-none}
 use Rattle.register_core.proofs.Stands.{next-stands}
 use Rattle.register_core.proofs.unary.UnaryWriter.next.Goals as goal
