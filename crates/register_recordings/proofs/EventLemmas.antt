@@ -11,10 +11,6 @@ use Rattle.register_recordings.specs.Misses.{AreMisses}
 use Rattle.register_recordings.specs.Recordings.{LeavesTurn}
 use Rattle.register_recordings.specs.Reading.{HasReadEvents, HasReadLineEvent}
 
--- the first event that is out of turn stays the first one after more events
-leaves_still : (r : Register) (events : List RegisterEvent) (e : RegisterEvent) (number : ℕ) → LeavesTurn r events number → LeavesTurn r (events ++ e ∷ []) number
-leaves_still r events e number is = grind (arith, append_assoc)
-
 module _ {W R P C : Type 0} (window : W → List ℕ) (states : R → List ReaderState) (places : P → List ℕ) (chains : C → List Chain) where
   -- what was read, if no event is out of turn
   pub in_turn :
@@ -27,4 +23,4 @@ module _ {W R P C : Type 0} (window : W → List ℕ) (states : R → List Reade
     pub event_passed :
         (line : ℕ) → new.count ≡ number → new.is_cut ≡ old.is_cut → new.witness.auditor.register ≡ old.witness.auditor.register → old.out_of_turn ≡ Some line → new.out_of_turn ≡ Some line →
         WritesValue old.witness.auditor.register event → HasReadEvents window states places chains old old.out_of_turn events → HasReadLineEvent window states places chains old number event events new
-    event_passed line count cut same was is value so_far = grind (arith, leaves_still)
+    event_passed line count cut same was is value so_far = grind (arith, append_assoc)

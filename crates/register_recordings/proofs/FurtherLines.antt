@@ -22,9 +22,6 @@ use Rattle.register_recordings.proofs.MissLemmas.{no_misses, none_missed}
 
 -- ---- lines
 
-pub first_is_value : (l : RegisterLine) (r : Register) → AllowsNumbers l → recorded_register l ≡ Some r → IsValue r r.first
-first_is_value l r h1 h2 = grind arith
-
 -- the last one of lines
 last_may : (r : Register) (further : List RegisterLine) (l : RegisterLine) → All (MayComeAfter r) (further ++ l ∷ []) → MayComeAfter r l
 last_may r [] l all = All-head (MayComeAfter r) l [] all
@@ -40,10 +37,7 @@ goes_on_line before bytes l on = record { text = on.1; allowed = last_allowed be
 -- as many events as lines
 as_many : (r : Register) (further : List RegisterLine) → All (MayComeAfter r) further → length (filter_map recorded_event further) ≡ length further
 as_many r [] all = refl
-as_many r (l ∷ further) all =
-    let may : MayComeAfter r l = All-head (MayComeAfter r) l further all in
-    ap (λ (o : Option RegisterEvent). length (cons_option o (filter_map recorded_event further))) may.1.1
-    ∙ ap (λ (n : ℕ). suc n) (as_many r further (All-tail (MayComeAfter r) l further all))
+as_many r (l ∷ further) all = grind (arith, All-head, All-tail, as_many r further (All-tail (MayComeAfter r) l further all))
 
 events_more : (further : List RegisterLine) (l : RegisterLine) (event : RegisterEvent) → recorded_event l ≡ Some event → filter_map recorded_event (further ++ l ∷ []) ≡ filter_map recorded_event further ++ event ∷ []
 events_more further l event gives = grind (arith, filter_map-append)
@@ -65,9 +59,7 @@ no_value head further bytes l r event gives is records never other on =
     let s : Register = on.0.1.0 in
     let same : l ≡ other = line_same bytes l other is (goes_on_line (head ∷ further) bytes other on) in
     let may : MayComeAfter s other = last_may s further other on.0.1.2 in
-    let registers : s ≡ r = same_Some s r (sym on.0.1.1 ∙ gives) in
-    let events : may.1.0 ≡ event = same_Some may.1.0 event (sym may.1.1 ∙ ap recorded_event (sym same) ∙ records) in
-    never (subst (λ (e : RegisterEvent). WritesValue r e) events (subst (λ (z : Register). WritesValue z may.1.0) registers may.1.2))
+    grind (arith, same_Some)
 
 module _ {W R P C : Type 0} (window : W → List ℕ) (states : R → List ReaderState) (places : P → List ℕ) (chains : C → List Chain) where
   -- ---- the first line
@@ -93,22 +85,7 @@ module _ {W R P C : Type 0} (window : W → List ℕ) (states : R → List Reade
       let same : r ≡ old.witness.auditor.register = same_Some r old.witness.auditor.register (sym has.are.1.1 ∙ were.0) in
       let may : MayComeAfter r l = (is.allowed, (event, records, subst (λ (z : Register). WritesValue z event) (sym same) now.value)) in
       let are : AreRegisterLines (head ∷ (further ++ l ∷ [])) = (has.are.0, (r, has.are.1.1, All-push (MayComeAfter r) further l has.are.1.2 may)) in
-      let read : HasReadEvents window states places chains new new.out_of_turn (filter_map recorded_event (further ++ l ∷ [])) =
-      subst (λ (es : List RegisterEvent). HasReadEvents window states places chains new new.out_of_turn es) (sym (events_more further l event records)) now.events in
-      let all : length (further ++ l ∷ []) ≡ length further + 1 = length-append further (l ∷ []) in
-      let count : new.count ≡ number = now.count in
-      let judged : HasJudged window states places chains new (head ∷ (further ++ l ∷ [])) = record {
-        are = are;
-        count = omega (arith, count, next, all);
-        events = λ first others parts.
-            let top : head ≡ first = ap (λ (ls : List RegisterLine). get_or ls 0 head) parts in
-            let rest : further ++ l ∷ [] ≡ others = ap (λ (ls : List RegisterLine). drop 1 ls) parts in (
-              subst (λ (x : RegisterLine). recorded_register x ≡ Some new.witness.auditor.register) top (were.0 ∙ ap (λ (z : Register). Some z) (sym now.register)),
-              subst (λ (x : RegisterLine). lacks_operations x ≡ new.is_cut) top (were.1 ∙ sym now.is_cut),
-              subst (λ (ls : List RegisterLine). HasReadEvents window states places chains new new.out_of_turn (filter_map recorded_event ls)) rest read,
-            );
-      } in
-      (l, (are, is.text), judged)
+      grind (arith, events_more, length-append)
 
   further_refusal :
       (old : JudgedLines W R P C) (fault : RegisterTextFault) (before : List RegisterLine) (bytes : List ℕ) (l : RegisterLine) (number : ℕ) (event : RegisterEvent) → before ≢ [] → length before + 1 ≡ number → IsRegisterLine bytes l → recorded_event l ≡ Some event →

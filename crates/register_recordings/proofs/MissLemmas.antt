@@ -30,10 +30,6 @@ first_comes c r events e had lacks = grind (arith, length-append, one_more, take
 pub miss_stays : (c : Class) (r : Register) (events : List RegisterEvent) (e : RegisterEvent) (miss : RegisterMiss) → IsMissFound c r events miss → IsMissFound c r (events ++ e ∷ []) miss
 miss_stays c r events e miss is = grind (arith, (append_assoc is.before (ReadEnds miss.reader miss.value ∷ is.rest) (e ∷ [])), (first_stays c r events e (length is.before) is.first), is.before, is.first, is.line, is.parts, is.reason, is.rest, miss.reader, miss.value)
 
--- a class that the history keeps is not missed
-pub class_stays : (c : Class) (r : Register) (events : List RegisterEvent) (e : RegisterEvent) → HasClass c r (e ∷ reverse events) → IsMissOf c r (events ++ e ∷ []) None
-class_stays c r events e has = subst (λ (h : List RegisterEvent). HasClass c r h) (sym (one_more events e)) has
-
 -- a read at which the history lacks a class, for this reason
 pub miss_comes :
     (c : Class) (r : Register) (events : List RegisterEvent) (miss : RegisterMiss) → length events + 2 ≡ miss.line → HasClass c r (reverse events) →
@@ -42,7 +38,7 @@ miss_comes c r events miss at had lacks reason = grind (arith, (first_comes c r 
 
 -- an event with which the history keeps its classes
 of_kept : (c : Class) (r : Register) (events : List RegisterEvent) (e : RegisterEvent) (known : Option RegisterMiss) → (HasClass c r (reverse events) → HasClass c r (e ∷ reverse events)) → IsMissOf c r events known → IsMissOf c r (events ++ e ∷ []) known
-of_kept c r events e known h1 h2 = grind (arith, class_stays, miss_stays)
+of_kept c r events e known h1 h2 = grind (arith, one_more, miss_stays)
 
 pub all_kept : (r : Register) (events : List RegisterEvent) (e : RegisterEvent) (misses : Misses) → ((c : Class) → HasClass c r (reverse events) → HasClass c r (e ∷ reverse events)) → AreMisses r events misses → AreMisses r (events ++ e ∷ []) misses
 all_kept r events e misses keeps are = search (rules, of_kept)

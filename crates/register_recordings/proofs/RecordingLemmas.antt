@@ -53,12 +53,6 @@ too_long before bytes more text long = grind (arith, length-append, many_bytes)
 ended_text : (before : List RegisterLine) (bytes cut end more : List ℕ) → bytes ≡ register_text before ++ cut → bytes ++ (end ++ 10 ∷ more) ≡ register_text before ++ ((cut ++ end) ++ 10 ∷ more)
 ended_text before bytes cut end more text = grind (arith, append_assoc)
 
-nothing_kept : (cut : List ℕ) → cut ≡ [] → length cut ≤ 54
-nothing_kept cut none = let long : length cut ≡ 0 = ap (λ (t : List ℕ). length t) none in omega (arith, long)
-
-no_feed_kept : (cut : List ℕ) → cut ≡ [] → HasNoFeed cut
-no_feed_kept cut none = subst HasNoFeed (sym none) (All-nil IsOther)
-
 module _ {W R P C B : Type 0} (window : W → List ℕ) (states : R → List ReaderState) (places : P → List ℕ) (chains : C → List Chain) (bytes_of : B → List ℕ) where
   -- nothing was read
   pub nothing_read : (new : RegisterRecording W R P C B) → bytes_of new.cut ≡ [] → HasJudged window states places chains new.lines [] → HasReadRegister window states places chains bytes_of new []
@@ -68,22 +62,14 @@ module _ {W R P C B : Type 0} (window : W → List ℕ) (states : R → List Rea
   pub line_ended :
       (old new : RegisterRecording W R P C B) (bytes end whole : List ℕ) (has : HasReadRegister window states places chains bytes_of old bytes) → whole ≡ bytes_of old.cut ++ end → bytes_of new.cut ≡ [] →
       (l : RegisterLine) × ContinuesRegister has.ended whole l × HasJudged window states places chains new.lines (has.ended ++ l ∷ []) → HasReadRegister window states places chains bytes_of new (bytes ++ end ++ 10 ∷ [])
-  line_ended old new bytes end whole has all none (l, on, lines) = grind (arith, append-nil, append_assoc, ended_text, no_feed_kept, nothing_kept, text_more)
+  line_ended old new bytes end whole has all none (l, on, lines) = grind (arith, append-nil, append_assoc, ended_text, All-nil, text_more)
 
   -- more bytes of a line were kept
   pub bytes_kept :
       (old new : RegisterRecording W R P C B) (text bytes : List ℕ) (has : HasReadRegister window states places chains bytes_of old text) → HasNoFeed bytes → bytes_of new.cut ≡ bytes_of old.cut ++ bytes → length (bytes_of old.cut) + length bytes ≤ 54 →
       HasJudged window states places chains new.lines has.ended → HasReadRegister window states places chains bytes_of new (text ++ bytes)
   bytes_kept old new text bytes has free cut short lines =
-      let all : length (bytes_of new.cut) ≡ length (bytes_of old.cut) + length bytes = ap (λ (t : List ℕ). length t) cut ∙ length-append (bytes_of old.cut) bytes in
-      let few : length (bytes_of new.cut) ≤ 54 = omega (arith, all, short) in
-      record {
-        ended = has.ended;
-        text = ap (λ (t : List ℕ). t ++ bytes) has.text ∙ append_assoc (register_text has.ended) (bytes_of old.cut) bytes ∙ ap (λ (t : List ℕ). register_text has.ended ++ t) (sym cut);
-        no_feed = subst HasNoFeed (sym cut) (All-append IsOther (bytes_of old.cut) bytes has.no_feed free);
-        few = few;
-        lines = lines;
-      }
+      grind (arith, length-append (bytes_of old.cut) bytes, append_assoc (register_text has.ended) (bytes_of old.cut) bytes, All-append IsOther (bytes_of old.cut) bytes has.no_feed free)
 
 -- ---- refusals
 
@@ -118,20 +104,8 @@ long_bad before text cut bytes more number parts are none free is long =
 pub end_refused :
     (fault : RegisterTextFault) (before : List RegisterLine) (bytes cut end whole more : List ℕ) → bytes ≡ register_text before ++ cut → AreRegisterLines before → HasNoFeed cut → HasNoFeed end → whole ≡ cut ++ end →
     RefusesRegisterLine fault before whole → RefusesRegisterText fault (bytes ++ (end ++ 10 ∷ more))
-end_refused (BadLine number) before bytes cut end whole more text are none free all refused = record {
-  before = before;
-  rest = (cut ++ end) ++ 10 ∷ more;
-  text = ended_text before bytes cut end more text;
-  are = are;
-  is_number = refused.0;
-  is_bad = λ l others on e.
-      let same = feed_once (cut ++ end) (register_line_text l) more others (All-append IsOther cut end none free) (no_feed_within l (last_allowed before l on)) (e ∙ line_and l others) in
-      refused.1 l (on, all ∙ same.0);
-  is_there = λ nothing.
-      let some : length ((cut ++ end) ++ 10 ∷ more) ≡ 0 = ap (λ (t : List ℕ). length t) nothing in
-      let parts : length ((cut ++ end) ++ 10 ∷ more) ≡ length (cut ++ end) + length (10 ∷ more) = length-append (cut ++ end) (10 ∷ more) in
-      absurd (omega (arith, some, parts));
-}
+end_refused (BadLine number) before bytes cut end whole more text are none free all refused =
+    grind (arith, ended_text before bytes cut end more text, feed_once, All-append IsOther cut end none free, no_feed_within, last_allowed, line_and, length-append (cut ++ end) (10 ∷ more))
 end_refused TooLong before bytes cut end whole more text are none free all refused = too_long before (bytes ++ (end ++ 10 ∷ more)) ((cut ++ end) ++ 10 ∷ more) (ended_text before bytes cut end more text) refused
 end_refused OutOfMemory before bytes cut end whole more text are none free all refused = tt
 
@@ -156,17 +130,7 @@ module _ {W R P C : Type 0} (window : W → List ℕ) (states : R → List Reade
   found lines finding [] bytes cut text none some has finds = absurd (some refl)
   found lines finding (head ∷ further) bytes cut text none some has finds =
       let read = has.events head further refl in
-      let is : IsRegisterRecording bytes lines.witness.auditor.register (filter_map recorded_event further) = record {
-        is_cut = lines.is_cut;
-        head = head;
-        further = further;
-        text = text ∙ ap (λ (t : List ℕ). register_text (head ∷ further) ++ t) none ∙ append-nil (register_text (head ∷ further));
-        are = has.are;
-        gives_cut = read.1;
-        gives_register = read.0;
-        gives_events = refl;
-      } in
-      (lines.witness.auditor.register, filter_map recorded_event further, is, finds (filter_map recorded_event further) read.2)
+      grind (arith, append-nil)
 
 -- ---- one list of lines
 

@@ -136,9 +136,6 @@ next_field P fault f r others x tells before e later = grind arith
 
 -- ---- values
 
-found_is : (f : Field) (o : Option Data) (v : Data) → found f o ≡ Ok v → o ≡ Some v
-found_is f o v h1 = grind arith
-
 not_found : (f : Field) (o : Option Data) (x : ScriptFault) → found f o ≡ Err x → (x ≡ MissingField f) × (o ≡ None)
 not_found f o x h1 = search rules
 
@@ -157,18 +154,15 @@ pub record HasValues (ms : Members) (vs : FieldValues) : Type 0 where
 
 pub values_from : (ms : Members) (vs : FieldValues) → field_values (object ms) ≡ Ok vs → HasValues ms vs
 unfolding field_values
-values_from ms vs e = search (rules, and_then_ok, found_is, ok_is)
+values_from ms vs e = search (rules, and_then_ok, ok_is)
 
 pub values_to : (ms : Members) (vs : FieldValues) → HasValues ms vs → field_values (object ms) ≡ Ok vs
 unfolding field_values
 values_to ms vs h = rw (h.capacity, h.modulus, h.width, h.items, h.takes, h.close, h.schedule, h.oracle, h.batch, h.take_batch)
 
-has_none : (ms : Members) (f : Field) (v : Data) → held_as f ms ≡ Some v → ¬ IsMissing ms f
-has_none ms f v s m = let n : held_as f ms ≡ None = m.1 in cc
-
 -- a needed field is found or missing
 finds : (ms : Members) (f : Field) → is_needed f ≡ true → Tells (IsMissing ms) MissingField f (found f (held_as f ms))
-finds ms f needed = search (rules, found_is, has_none, not_found)
+finds ms f needed = search (rules, not_found)
 
 pub values_missing : (ms : Members) (x : ScriptFault) → field_values (object ms) ≡ Err x → IsOfFirst (IsMissing ms) MissingField x
 unfolding field_values

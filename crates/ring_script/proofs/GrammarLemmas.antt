@@ -74,23 +74,11 @@ digit_below c low high = omega (arith, digit_value_digit c (low, high))
 letter_stands : (before : ℕ) (s : Side) → may_stand before (letter_of s) ≡ true
 letter_stands before s = grind arith
 
-letter_no_digit : (s : Side) → is_digit (letter_of s) ≡ false
-letter_no_digit s = grind arith
-
 side_letter : (s : Side) → letter_side (letter_of s) ≡ s
 side_letter s = grind arith
 
 digit_after_digit : (before c : ℕ) → is_digit before ≡ true → is_digit c ≡ true → may_stand before c ≡ true
 digit_after_digit before c b d = grind arith
-
-digit_after_letter : (s : Side) (c : ℕ) → 48 < c → c ≤ 57 → may_stand (letter_of s) c ≡ true
-digit_after_letter s c h1 h2 = search rules
-
-first_of_count : (b c : ℕ) → is_letter b ≡ true → may_stand b c ≡ true → 48 ≤ c → c ≤ 57 → 48 < c
-first_of_count b c l e low high = grind arith
-
-never_first : (c : ℕ) → may_stand 0 c ≡ true → 48 ≤ c → c ≤ 57 → ⊥
-never_first c e low high = grind arith
 
 letter_back : (b : ℕ) → is_letter b ≡ true → b ≡ letter_of (letter_side b)
 letter_back b l = grind arith
@@ -105,7 +93,7 @@ digits_stand (c ∷ cs) d before e rest h =
     (digit_after_digit before c e digit, digits_stand cs d.1 c digit rest h)
 
 count_stands : (s : Side) (ds : List ℕ) → IsLetterCount ds → (rest : List ℕ) → ((b : ℕ) → Stands b rest) → Stands (letter_of s) (ds ++ rest)
-count_stands s ds h1 rest h2 = grind (arith, digit_after_letter, digit_is, digits_stand)
+count_stands s ds h1 rest h2 = grind (arith, rules, digit_is, digits_stand)
 
 parts_stand : (ps : List Part) (before : ℕ) → Stands before (flat_map part_text ps)
 parts_stand [] before = tt
@@ -129,7 +117,7 @@ count_digits ds h1 = grind arith
 parts_letters : (s : Side) (n : ℕ) (ps : List Part) → letters_after s n (flat_map part_text ps) ≡ times n s ++ flat_map part_letters ps
 unfolding letters_after
 parts_letters s n [] = sym (append-nil (times n s))
-parts_letters s n (p ∷ ps) = grind (arith, count_digits, count_is, digits_letters, letter_no_digit, side_letter, (parts_letters p.side (digits_value_after 10 0 p.count) ps))
+parts_letters s n (p ∷ ps) = grind (arith, count_digits, count_is, digits_letters, side_letter, (parts_letters p.side (digits_value_after 10 0 p.count) ps))
 
 parts_spell : (ps : List Part) → letters_of (flat_map part_text ps) ≡ flat_map part_letters ps
 unfolding letters_of
@@ -150,7 +138,7 @@ record Front (before : ℕ) (text : List ℕ) : Type 0 where
   opens : Opens before digits
 
 proper_from : (b : ℕ) → is_letter b ≡ true → (ds : List ℕ) → Opens b ds → AllDigits 10 ds → IsLetterCount ds
-proper_from b h1 ds h2 h3 = grind (arith, digit_from_value, first_of_count)
+proper_from b h1 ds h2 h3 = grind (arith, digit_from_value)
 
 front_at : (letter digit : Bool) (before b : ℕ) (rest : List ℕ) → is_letter b ≡ letter → is_digit b ≡ digit → may_stand before b ≡ true → Front b rest → Front before (b ∷ rest)
 front_at true digit before b rest l d stands later = record {
@@ -176,7 +164,7 @@ front_from before [] s = record { digits = []; parts = []; written = refl; all_d
 front_from before (b ∷ rest) s = front_at (is_letter b) (is_digit b) before b rest refl refl s.0 (front_from b rest s.1)
 
 parts_at : (text ds : List ℕ) (ps : List Part) → text ≡ ds ++ flat_map part_text ps → AllDigits 10 ds → Opens 0 ds → text ≡ flat_map part_text ps
-parts_at text ds ps h1 h2 h3 = grind (arith, digit_from_value, never_first)
+parts_at text ds ps h1 h2 h3 = grind (arith, digit_from_value)
 
 schedule_stands : (text : List ℕ) (letters : List Side) → IsSchedule text letters → Stands 0 text
 schedule_stands text letters s = subst (λ (t : List ℕ). Stands 0 t) (sym s.written) (parts_stand s.parts 0)

@@ -82,9 +82,6 @@ no_list v e k = some_not_none (option_and_then wholes_of (as_array v)) k.0 (ap (
 batch_at : (f : Field) (ms : Members) (o : Option Data) (n : ℕ) → held_as f ms ≡ o → batch_in f o ≡ Ok n → HasBatchField f ms n
 batch_at f ms o n h1 h2 = grind arith
 
-batch_read : (f : Field) (ms : Members) (o : Option Data) (n : ℕ) → held_as f ms ≡ o → HasBatchField f ms n → batch_in f o ≡ Ok n
-batch_read f ms o n h1 h2 = grind arith
-
 -- ---- the fields
 
 -- the members have these values of the right kinds
@@ -132,7 +129,7 @@ same_some o a b s t = cc
 
 pub kinds_to : (ms : Members) (vs : FieldValues) (ts : HeldFields) → HasValues ms vs → HasKinds ms ts → typed_of vs ≡ Ok ts
 unfolding typed_of
-kinds_to ms vs ts h k = grind (arith, batch_read, same_some, wholes_again)
+kinds_to ms vs ts h k = grind (arith, same_some, wholes_again)
 
 right_kind : (ms : Members) (f : Field) (v : Data) → held_as f ms ≡ Some v → IsOfKind f v → ¬ IsOfWrongKind ms f
 right_kind ms f v held kind w = w.2 (subst (IsOfKind f) (same_some _ _ _ held w.1) kind)

@@ -43,11 +43,8 @@ json_from bytes d e = json_at bytes (is_utf8 bytes) d refl e
 pub json_to : (bytes : List ℕ) (d : Data) → IsJson bytes d → json_of bytes ≡ Ok d
 json_to bytes d j = json_read bytes d j.text j.reads
 
-not_read : (bytes : List ℕ) (o : Option Data) (x : ScriptFault) → if_read o ≡ Err x → x ≡ fault.NotJson
-not_read bytes o x h1 = grind arith
-
 json_why_at : (bytes : List ℕ) (t : Bool) (x : ScriptFault) → (if t then if_read (read bytes) else Err fault.NotJson) ≡ Err x → x ≡ fault.NotJson
-json_why_at bytes t x h1 = search (rules, not_read, same_err)
+json_why_at bytes t x h1 = search (rules, same_err)
 
 pub json_why : (bytes : List ℕ) (x : ScriptFault) → json_of bytes ≡ Err x → x ≡ fault.NotJson
 unfolding json_of
@@ -70,9 +67,6 @@ names_test false e = cc
 
 pub names_from : (d : Data) → names_in (as_object d) ≡ Ok tt → (ms : Members) × (d ≡ object ms) × HasKnownNames ms
 names_from d h1 = grind (arith, known_from, names_test)
-
-pub names_to : (ms : Members) → HasKnownNames ms → names_in (Some ms) ≡ Ok tt
-names_to ms h = rw (known_to ms h)
 
 -- the two faults of a value that is not an object of known names
 abbrev pub NamesFault : Data → ScriptFault → Type 0
@@ -119,12 +113,9 @@ wide_at : (w : ℕ) (items : List ℕ) (o : Option ℕ) (x : ScriptFault) → po
 wide_at w items None x is e = cc
 wide_at w items (Some p) x is e = (p, sym (same_err _ x e), position_first (Fit w) (is_too_wide w) (fit_tested w) items p is)
 
-many_at : (w : ℕ) (t : Bool) (items : List ℕ) (x : ScriptFault) → nat_lt ITEM_LIMIT (length items) ≡ t → (if t then Err fault.TooManyItems else if_fits (position (is_too_wide w) items)) ≡ Err x → ItemsFault w items x
-many_at w t items x h1 h2 = grind (arith, ltb-false, ltb-true, same_err, wide_at)
-
 pub items_why : (w : ℕ) (items : List ℕ) (x : ScriptFault) → items_within w items ≡ Err x → ItemsFault w items x
 unfolding items_within
-items_why w items x e = many_at w (nat_lt ITEM_LIMIT (length items)) items x refl e
+items_why w items x e = grind (arith, ltb-false, ltb-true, same_err, wide_at)
 
 pub many_told : (w : ℕ) (items : List ℕ) → ITEM_LIMIT < length items → items_within w items ≡ Err fault.TooManyItems
 unfolding items_within
@@ -136,35 +127,22 @@ wide_told w items p few first = rw (le-ltb ITEM_LIMIT (length items) few) (ap if
 
 -- ---- the schedule
 
-stands_is : (o : Option ℕ) (all letters : List Side) → if_stands o all ≡ Ok letters → (o ≡ None) × (if_stands None all ≡ Ok letters)
-stands_is o all letters h1 = grind arith
-
-short_at : (most : ℕ) (t : Bool) (all letters : List Side) (x : ScriptFault) → nat_lt most (length all) ≡ t → (if t then Err x else Ok all) ≡ Ok letters → (letters ≡ all) × (length all ≤ most)
-short_at most t all letters x h1 h2 = grind arith
-
-short_moved : (most : ℕ) (a b : List Side) → a ≡ b → length b ≤ most → length a ≤ most
-short_moved most a b e h = omega (arith, ap length e)
-
 pub schedule_from : (text : List ℕ) (letters : List Side) → schedule_of text ≡ Ok letters → IsSchedule text letters × (length letters ≤ LETTER_LIMIT)
 unfolding schedule_of
-schedule_from text letters e = grind (arith, clean_schedule, short_at, short_moved, stands_is)
+schedule_from text letters e = grind (arith, clean_schedule)
 
 pub schedule_to : (text : List ℕ) (letters : List Side) → IsSchedule text letters → length letters ≤ LETTER_LIMIT → schedule_of text ≡ Ok letters
 unfolding schedule_of
-schedule_to text letters s short = grind (arith, (schedule_clean text letters s), (schedule_spells text letters s), le-ltb, short_moved)
+schedule_to text letters s short = grind (arith, (schedule_clean text letters s), (schedule_spells text letters s), le-ltb)
 
 abbrev pub ScheduleFault : List ℕ → ScriptFault → Type 0
 ScheduleFault text x =
     ((p : ℕ) × (x ≡ fault.BadSchedule p) × IsFirstStray IsScheduleText text p)
     ⊎ ((letters : List Side) × (x ≡ fault.ScheduleTooLong) × IsSchedule text letters × (LETTER_LIMIT < length letters))
 
-long_at : (text : List ℕ) (t : Bool) (x : ScriptFault) → stray_in text ≡ None → nat_lt LETTER_LIMIT (length (letters_of text)) ≡ t
-    → (if t then Err fault.ScheduleTooLong else Ok (letters_of text)) ≡ Err x → ScheduleFault text x
-long_at text t x h1 h2 h3 = grind (arith, clean_schedule, ltb-true, same_err)
-
 bad_at : (text : List ℕ) (o : Option ℕ) (x : ScriptFault) → stray_in text ≡ o → if_stands o (letters_of text) ≡ Err x → ScheduleFault text x
 bad_at text (Some p) x is e = inl (p, sym (same_err _ x e), stray_is text p is)
-bad_at text None x is e = long_at text (nat_lt LETTER_LIMIT (length (letters_of text))) x is refl e
+bad_at text None x is e = grind (arith, clean_schedule, ltb-true, same_err)
 
 pub schedule_why : (text : List ℕ) (x : ScriptFault) → schedule_of text ≡ Err x → ScheduleFault text x
 unfolding schedule_of
@@ -180,12 +158,9 @@ long_told text letters s long = grind (arith, (schedule_clean text letters s), (
 
 -- ---- the oracle
 
-answers_at : (text : List ℕ) (o : Option ℕ) (bits : List Bool) → position is_no_answer text ≡ o → if_answers o text ≡ Ok bits → IsOracle text bits
-answers_at text o bits h1 h2 = grind (arith, answers_from, ok_is, position_none)
-
 pub oracle_from : (text : List ℕ) (bits : List Bool) → oracle_of text ≡ Ok bits → IsOracle text bits
 unfolding oracle_of
-oracle_from text bits e = answers_at text (position is_no_answer text) bits refl e
+oracle_from text bits e = grind (arith, answers_from, ok_is, position_none)
 
 pub oracle_to : (text : List ℕ) (bits : List Bool) → IsOracle text bits → oracle_of text ≡ Ok bits
 unfolding oracle_of

@@ -143,9 +143,6 @@ pub run_begins : (rest : List ℕ) (i : ℕ) (d : Bool) → i < length rest → 
 unfolding runs_in
 run_begins rest i d h is failed = grind (arith, (at_drop_more runs_in rest i 0 h))
 
-pub runs_begin : (rs : List LetterRun) (rest : List ℕ) → rs ≡ [] → length rs + runs_in rest ≡ runs_in rest
-runs_begin rs rest none = omega (arith, ap length none)
-
 pub run_made : (rs rs' : List LetterRun) (r : LetterRun) (rest : List ℕ) (i : ℕ) (d : Bool) → i < length rest → d ≡ is_digit (get_or rest i 0) → d ≡ false → rs' ≡ rs ++ r ∷ []
     → length rs + runs_in (drop i rest) ≡ runs_in rest → length rs' + runs_in (drop (i + 1) rest) ≡ runs_in rest
 run_made rs rs' r rest i d h is failed pushed made = omega (arith, ap length pushed, length-append rs (r ∷ []), run_begins rest i d h is failed, made)

@@ -10,9 +10,9 @@ use Rattle.bits_core.specs.declared.shapes.Shape.{Shape}
 use Rattle.bits_core.proofs.ShapeLemmas.{same_shape}
 use Rattle.ring_script.proofs.ShapeLemmas.{shape_accepted, shape_made, shape_refused, shape_why}
 use Rattle.ring_script.proofs.GrammarLemmas.{schedule_spells}
-use Rattle.ring_script.proofs.FieldLemmas.{HasValues, all_there, and_then_at, and_then_err, and_then_fails, and_then_ok, missing_told, ok_is, ok_not_err, values_from, values_missing, values_there, values_to}
+use Rattle.ring_script.proofs.FieldLemmas.{HasValues, all_there, and_then_at, and_then_err, and_then_fails, and_then_ok, missing_told, ok_is, ok_not_err, values_from, values_missing, values_there, values_to, known_to}
 use Rattle.ring_script.proofs.KindLemmas.{HasKinds, kinds_from, kinds_to, kinds_wrong, wrong_told}
-use Rattle.ring_script.proofs.PartLemmas.{same_err, json_from, json_to, json_why, no_json, json_told, names_from, names_to, names_why, no_object, unknown_told, items_from, items_to, items_why, many_told, wide_told, schedule_from, schedule_to, schedule_why, bad_told, long_told, oracle_from, oracle_to, oracle_why, oracle_told}
+use Rattle.ring_script.proofs.PartLemmas.{same_err, json_from, json_to, json_why, no_json, json_told, names_from, names_why, no_object, unknown_told, items_from, items_to, items_why, many_told, wide_told, schedule_from, schedule_to, schedule_why, bad_told, long_told, oracle_from, oracle_to, oracle_why, oracle_told}
 use Rattle.ring_script.specs.Results.{result_and_then}
 use Rattle.ring_script.specs.Schedule.{IsSchedule}
 use Rattle.ring_script.specs.FieldReading.{FieldValues, names_in, typed_of, field_values}
@@ -110,7 +110,7 @@ holds_from bytes ms ts o k = record { members = ms; is_object = o; capacity = k.
 object_to : (bytes : List ℕ) (ms : Members) (r : Result Given ScriptFault) → IsObject bytes ms
     → result_and_then (field_values (object ms)) (λ values. result_and_then (typed_of values) given_of) ≡ r → script_of bytes ≡ r
 unfolding script_of given_in
-object_to bytes ms r o e = search (rules, and_then_at, json_to, names_to)
+object_to bytes ms r o e = search (rules, and_then_at, json_to, known_to)
 
 -- and if its fields hold this, their values decide
 holds_to : (bytes : List ℕ) (ts : HeldFields) (r : Result Given ScriptFault) → HoldsFields bytes ts → given_of ts ≡ r → script_of bytes ≡ r

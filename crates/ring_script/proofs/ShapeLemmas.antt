@@ -18,10 +18,6 @@ inside least most n low high = grind arith
 outside : (least most n : ℕ) → ¬ ((least ≤ n) × (n ≤ most)) → is_within least most n ≡ false
 outside least most n h = grind arith
 
--- the modulus, for both batches
-modulus_inside : (c g h m : ℕ) → c + g < m → c + h < m → m ≤ 256 → is_modulus c g h m ≡ true
-modulus_inside c g h m batch take_batch few = rw (inside (c + g + 1) 256 m (omega (arith, batch)) few) (inside (c + h + 1) 256 m (omega (arith, take_batch)) few)
-
 modulus_outside : (c g h m : ℕ) → ¬ (((c + g < m) × (m ≤ 256)) × ((c + h < m) × (m ≤ 256))) → is_modulus c g h m ≡ false
 modulus_outside c g h m out = grind arith
 
@@ -32,13 +28,6 @@ numbers_accepted shape = grind (arith, inside)
 pub shape_accepted : (capacity modulus width batch take_batch : ℕ) (shape : Shape) → HasBatches capacity modulus width batch take_batch shape
     → shape_in capacity modulus width batch take_batch ≡ Ok tt
 shape_accepted capacity modulus width batch take_batch shape h = grind (arith, numbers_accepted)
-
--- the name of a modulus's fault
-single_fault : (h : ℕ) → h ≡ 1 → nat_lt 1 h ≡ false
-single_fault h single = rw single refl
-
-larger_fault : (h : ℕ) → 1 < h → nat_lt 1 h ≡ true
-larger_fault h over = grind arith
 
 -- the first of these is reported
 abbrev told : (t1 t2 t3 t4 t5 over : Bool) → Result ⊤ ScriptFault
@@ -58,9 +47,9 @@ pub shape_refused : (c m w g h : ℕ) (refusal : ShapeFault) → IsRefusedBatche
 shape_refused c m w g h Capacity r = grind (arith, outside, shape_is)
 shape_refused c m w g h Batch r = search (rules, inside, outside, shape_is)
 shape_refused c m w g h TakeBatch r = search (rules, inside, outside, shape_is)
-shape_refused c m w g h Modulus r = grind (arith, modulus_outside, single_fault, sized)
-shape_refused c m w g h ModulusOfBatches r = grind (arith, larger_fault, modulus_outside, sized)
-shape_refused c m w g h Width r = grind (arith, modulus_inside, outside, sized)
+shape_refused c m w g h Modulus r = grind (arith, modulus_outside, sized)
+shape_refused c m w g h ModulusOfBatches r = grind (arith, modulus_outside, sized)
+shape_refused c m w g h Width r = grind (arith, inside, outside, sized)
 
 -- the numbers make a shape or are refused, and are reported as such
 pub shape_why : (c m w g h : ℕ) (x : ScriptFault) → shape_in c m w g h ≡ Err x → (r : ShapeFault) × (x ≡ fault.Shape r) × IsRefusedBatches c m w g h r

@@ -1,6 +1,6 @@
 use Rattle.std.proofs.Common.{◌∙◌, ◌+◌, ◌++◌, length, sym, ap, inr, refl, arith}
 use Rattle.ring_script.specs.Schedule.{spelled}
-use Rattle.ring_script.proofs.ScheduleLemmas.{no_letters, no_length, letters_begin, no_total, too_long, letters_pushed, total_pushed, letters_done, within_done, digit_next, runs_begin, run_goes_on, run_made}
+use Rattle.ring_script.proofs.ScheduleLemmas.{no_letters, no_length, letters_begin, no_total, too_long, letters_pushed, total_pushed, letters_done, within_done, digit_next, run_goes_on, run_made}
 use Rattle.ring_script.proofs.schedules.runs.Goals as goal
 use Rattle.ring_script.proofs.schedules.runs.Goals.{then-is_a_digit+else-total-more-gt-LETTER_LIMIT, else-is_a_digit+else-total-times-gt-LETTER_LIMIT+in_ok-push}
 
@@ -11,7 +11,7 @@ pub returns-in_default-clause-within : goal.returns-in_default-clause-within
 returns-in_default-clause-within g c = no_length _ _ c.in_default.ensures.cases
 
 pub loop-b-init : goal.loop-b-init
-loop-b-init g c = grind (arith, letters_begin, no_total, runs_begin)
+loop-b-init g c = grind (arith, letters_begin, no_total)
 
 pub returns-then-total-more-gt-LETTER_LIMIT-clause-refused : goal.returns-then-total-more-gt-LETTER_LIMIT-clause-refused
 returns-then-total-more-gt-LETTER_LIMIT-clause-refused g c =

@@ -4,14 +4,14 @@ use Rattle.register_calls.specs.declared.events.RegisterEvent.TheVariants.{ReadE
 use Rattle.register_calls.specs.Classes.{HasClass}
 use Rattle.register_recordings.specs.declared.findings.RegisterMiss.{RegisterMiss}
 use Rattle.register_recordings.specs.Misses.{IsMissOf}
-use Rattle.register_recordings.proofs.MissLemmas.{class_stays, miss_comes, miss_stays}
+use Rattle.register_recordings.proofs.MissLemmas.{miss_comes, miss_stays, one_more}
 use Rattle.register_recordings.proofs.recordings.JudgedLines.miss_with.Goals as goal
 
 pub returns-in-Some : goal.returns-in-Some
 returns-in-Some g c before at remembers formed known = grind (arith, miss_stays)
 
 pub returns-then-has_with : goal.returns-then-has_with
-returns-then-has_with g c before at remembers formed known = grind (arith, class_stays)
+returns-then-has_with g c before at remembers formed known = grind (arith, one_more)
 
 pub returns-else-has_with : goal.returns-else-has_with
 returns-else-has_with g c before at remembers formed known =

@@ -39,9 +39,7 @@ loop-end-preserved g c =
     )
 
 pub returns-clause-read : goal.returns-clause-read
-returns-clause-read g c = then_ok c.keep.result c.keep.ensures.read (λ kept bytes has.
-    let read = c.loop-end.invariant in
-    subst (HasReadRegister g.W.Fifo.items g.R.Fifo.items g.P.Fifo.items g.C.Fifo.items g.B.Store.items c.keep.new.self) (append_assoc bytes read.0 c.loop-end.rest.now ∙ ap (λ (t : List ℕ). bytes ++ t) (sym read.1)) (kept (bytes ++ read.0) (read.2 bytes has)))
+returns-clause-read g c = grind (arith, then_ok, append_assoc, c.keep.ensures.read, c.loop-end.invariant)
 
 pub returns-clause-refused : goal.returns-clause-refused
 returns-clause-refused g c = then_err c.keep.result c.keep.ensures.refused (λ e refused bytes more has.
