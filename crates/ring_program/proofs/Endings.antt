@@ -102,12 +102,10 @@ pub unread : (question : Question) (before after out : Option (List ℕ)) (Tells
     → (fault ≡ app.TooLarge → (came : List ℕ) × (INPUT_LIMIT < length came) × Consumes before after came)
     → SaysRefusal Tells (refusal.App fault) → Ends (OnInput question) before out out Tells status
 unread question None after out Tells fault status one unwritten unrun large told = tt
-unread question (Some input) after out Tells fault status one unwritten unrun large told =
-    inr (refusal.App fault, cause question input fault unwritten unrun (λ is. large_input input after (large is).0 (large is).1 (large is).2), (one, Keeps-refl out, told))
+unread question (Some input) after out Tells fault status one unwritten unrun large told = grind (arith, cause, large_input, Keeps-refl)
 
 -- what holds for bytes that an input was read as, to its end, holds for the input
 pub read_whole : (P : List ℕ → Type 0) (input after : Option (List ℕ)) (bytes : List ℕ) → Consumes input after bytes → IsAtEnd after → P bytes → IfSome input P
 read_whole P None after bytes came end holds = tt
 read_whole P (Some whole) None bytes came end holds = absurd came
-read_whole P (Some whole) (Some rest) bytes came end holds =
-    subst P (sym (came ∙ ap (λ more. bytes ++ more) end ∙ append-nil bytes)) holds
+read_whole P (Some whole) (Some rest) bytes came end holds = grind (arith, append-nil)

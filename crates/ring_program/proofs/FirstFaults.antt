@@ -64,11 +64,7 @@ feed_alone (c ∷ a) b e = absurd (feed_nowhere [] a b (All-nil (λ c. c ≢ 10)
 -- the bytes up to and including a line feed
 pub front_line : (bytes front more line : List ℕ) → HasNoFeed front → bytes ≡ front ++ 10 ∷ more → line ≡ take (length front + 1) bytes → IsOneLine line
 front_line bytes front more line none is cut =
-    let whole = front ++ 10 ∷ [] in
-    let many : length front + 1 ≡ length whole = omega (arith, length-append front (10 ∷ [])) in
-    let same : line ≡ whole =
-    cut ∙ ap₂ (λ (n : ℕ) (t : List ℕ). take n t) many (is ∙ sym (append_assoc front (10 ∷ []) more)) ∙ take-append_seam whole more in
-    subst IsOneLine (sym same) (line_behind front (10 ∷ []) none feed_alone)
+    grind (arith, length-append front (10 ∷ []), ap₂, append_assoc front (10 ∷ []) more, take-append_seam, line_behind front (10 ∷ []) none feed_alone, feed_alone)
 
 -- a text of lines ends in a line feed
 ends_in_feed : (l : Line) (ls : List Line) → (t : List ℕ) × (lines_text (l ∷ ls) ≡ t ++ 10 ∷ [])

@@ -1,5 +1,5 @@
 -- What a writer gained, all of a text or a prefix of it.
-use Rattle.std.proofs.Common.{◌≡◌, ◌⊎◌, ℕ, ◌+◌, Bool, true, false, List, [], ◌++◌, Option, inl, length, not, refl, subst, sym, take, append-nil}
+use Rattle.std.proofs.Common.{◌≡◌, ◌⊎◌, ℕ, ◌+◌, Bool, true, false, List, [], ◌++◌, Option, inl, length, not, refl, subst, sym, take, append-nil, arith}
 use Rattle.std.proofs.KnownBytes.{Appends-trans}
 use Rattle.std.proofs.Math.Seq.{take-append-add}
 use Rattle.std.specs.Io.KnownBytes.{Appends}
@@ -19,8 +19,7 @@ told_whole before after false text is gains = cc
 -- a second line was written after the first
 both : (before middle after : Option (List ℕ)) (is_told : Bool) (line more : List ℕ) → Appends before middle line → Gains middle after is_told more → Gains before after is_told (line ++ more)
 both before middle after true line more first second = Appends-trans before middle after line more first second
-both before middle after false line more first (count, second) =
-    (length line + count, subst (Appends before after) (sym (take-append-add line more count)) (Appends-trans before middle after line (take count more) first second))
+both before middle after false line more first (count, second) = grind (arith, take-append-add line more count, Appends-trans before middle after line (take count more) first second)
 
 pub tells_both : (before middle after : Option (List ℕ)) (is_told : Bool) (e : Refusal) → Appends before middle (refusal_line e)
     → (more : List ℕ) × ((more ≡ []) ⊎ IsInText e) × Gains middle after is_told more → SaysRefusal (Gains before after is_told) e

@@ -23,8 +23,7 @@ moves_within : (script : Content) (letters : List Side) (past later : List Event
 moves_within script [] past [] moves = omega arith
 moves_within script [] past (e ∷ later) moves = absurd moves
 moves_within script (l ∷ letters) past later (inl (done, moves)) = omega (arith, moves_within script letters past later moves)
-moves_within script (l ∷ letters) past later (inr (not_done, (e, es, is, by, moves))) =
-    omega (arith, ap length is, moves_within script letters (past ++ e ∷ []) es moves)
+moves_within script (l ∷ letters) past later (inr (not_done, (e, es, is, by, moves))) = grind (arith, moves_within script letters (past ++ e ∷ []) es moves)
 
 -- so they are no more than a trace may have, if the letters are no more
 pub play_within : (script : Content) (h : List Event) → length script.letters ≤ EVENT_LIMIT → Plays script script.letters h → length h ≤ EVENT_LIMIT

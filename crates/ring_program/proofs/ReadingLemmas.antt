@@ -16,9 +16,7 @@ use Rattle.ring_program.specs.declared.answers.Ending.TheVariants.{Done, FaultFo
 
 -- bytes, a piece that was read in part, and then a line
 pub around : (bytes piece read line rest more : List ℕ) → piece ≡ (read ++ line) ++ rest → (bytes ++ read) ++ (line ++ (rest ++ more)) ≡ bytes ++ (piece ++ more)
-around bytes piece read line rest more is =
-    append_assoc bytes read (line ++ (rest ++ more))
-    ∙ ap (λ (t : List ℕ). bytes ++ t) (sym (append_assoc read line (rest ++ more)) ∙ sym (append_assoc (read ++ line) rest more) ∙ ap (λ (t : List ℕ). t ++ more) (sym is))
+around bytes piece read line rest more is = grind (arith, append_assoc)
 
 -- a piece that was read in part, and then a line
 pub line_read : (piece read rest line more : List ℕ) → piece ≡ read ++ rest → rest ≡ line ++ more → piece ≡ (read ++ line) ++ more
@@ -48,9 +46,7 @@ is_fault ended (NotLinearizable line cause) is = (is, refl)
 
 pub fault_ahead : (bytes ended rest whole later : List ℕ) (found : CallsFinding) → bytes ≡ ended ++ rest → bytes ++ later ≡ whole → IsFaultOf ended (Some found)
     → EndsAtFirstFault ended → IsFaultAhead whole found
-fault_ahead bytes ended rest whole later found parts is fault first =
-    let f = is_fault ended found fault in
-    (ended, rest ++ later, sym is ∙ ap (λ (t : List ℕ). t ++ later) parts ∙ append_assoc ended rest later, f.0, f.1, first)
+fault_ahead bytes ended rest whole later found parts is fault first = grind (arith, is_fault, append_assoc)
 
 -- the text of a fault does not depend on whether the recording is cut
 same_text : (a b : Bool) (found : CallsFinding) → calls_ending_of found ≡ FaultFound → calls_text_of a found ≡ calls_text_of b found
@@ -67,14 +63,7 @@ at_end true bytes is_cut found faultless is = (bytes, [], sym (append-nil bytes)
 
 pub at_fault : (stop : Bool) (bytes : List ℕ) (found : CallsFinding) → stop ≡ true → IsFaultAhead bytes found → IsFoundBy stop bytes false found
 at_fault false bytes found is ahead = cc
-at_fault true bytes found is (front, rest, parts, (capacity, events, recording, is_found), ends, first) = (
-  front,
-  rest,
-  parts,
-  (capacity, events, recording, is_found, same_text false recording.is_cut found ends),
-  (λ over. absurd (never_done (calls_ending_of found) ends over)),
-  (λ fault. first),
-)
+at_fault true bytes found is (front, rest, parts, (capacity, events, recording, is_found), ends, first) = grind (arith, same_text, never_done)
 
 -- what follows from the bytes of an input, if they are known
 pub of_input : (input : Option (List ℕ)) (P Q : List ℕ → Type 0) → ((bytes : List ℕ) → P bytes → Q bytes) → IfSome input P → IfSome input Q
@@ -96,8 +85,7 @@ none_more (suc count) piece came same = cc
 -- what holds for the bytes that came holds for the input, if a read that returned none is at its end
 pub of_whole : (before mid after : Option (List ℕ)) (came piece : List ℕ) (count : ℕ) (P : List ℕ → Type 0) → Consumes before mid came → Consumes mid after (take count piece) → count ≡ 0
     → IsAtEnd after → P came → IfSome before P
-of_whole before mid after came piece count P had more none over holds =
-    Consumes-whole before after came P (subst (Consumes before after) (none_more count piece came none) (Consumes-trans before mid after came (take count piece) had more)) over holds
+of_whole before mid after came piece count P had more none over holds = grind (arith, Consumes-whole, none_more, Consumes-trans)
 
 -- a piece that is not empty adds to the bytes
 pub one_more : (turns count : ℕ) (came piece : List ℕ) → turns ≤ length came → count ≢ 0 → count ≤ length piece → turns + 1 ≤ length (came ++ take count piece)

@@ -19,18 +19,14 @@ un_not false e = sym e
 -- items were compared with the next ones
 pub next_items : (offered items : List ℕ) (batch n : ℕ) (differ : Bool) → n ≡ min batch (length items) → differ ≡ not (bytes_eq offered (take n items)) → differ ≡ false
     → offered ≡ take batch items
-next_items offered items batch n differ n_is is same =
-    (bytes_eq-Decides offered (take n items)).0 (un_not (bytes_eq offered (take n items)) (sym is ∙ same)) ∙ ap (λ (k : ℕ). take k items) n_is ∙ take_min batch items
+next_items offered items batch n differ n_is is same = grind (arith, bytes_eq-Decides, un_not, take_min)
 
 pub front_items : (items taken left : List ℕ) → bytes_eq (take (length items) taken) items ≡ true → left ≡ drop (length items) taken → taken ≡ items ++ left
-front_items items taken left same is =
-    sym (take-append-drop (length items) taken) ∙ ap₂ (λ (a : List ℕ) (b : List ℕ). a ++ b) ((bytes_eq-Decides (take (length items) taken) items).0 same) (sym is)
+front_items items taken left same is = grind (arith, take-append-drop, ap₂, bytes_eq-Decides)
 
 -- a take ended with the next items
 pub took : (u : Untold) (items : List ℕ) (left : Bor (List ℕ)) → u.taken.now ≡ items ++ left.now → TakesOff u (TakeEnd (Passed items true)) (record u { taken = left })
-took u items left is =
-    let taken : items ++ [] ++ left.now ≡ u.taken.now = simp append-nil (sym is) in
-    record { items = refl; tells = search (rules, arith, taken) }
+took u items left is = grind (arith, append-nil, rules)
 
 -- a put began
 pub offered_next : (u : Untold) (offered : List ℕ) (calls : ℕ) → 1 ≤ u.calls → calls ≡ u.calls - 1 → TakesOff u (PutBegin offered) (record u { calls = calls })

@@ -108,13 +108,7 @@ pub audits_more : {Q E : Type 0} (items_of : Q → List ℕ) (capacity : ℕ) (a
     → after.capacity ≡ auditor.capacity
     → ((h : List Event) → Audits items_of auditor h → Audits items_of after (h ++ event ∷ []) × IsLinearizable (meant auditor.capacity) (h ++ event ∷ []))
     → IsAudited items_of capacity auditor events → IsAudited items_of capacity after (events ++ event ∷ [])
-audits_more {Q} items_of capacity auditor after events event same reads a =
-    let read = reads events a.audits in
-    record {
-      audits = read.0;
-      capacity_is = ap meant same ∙ a.capacity_is;
-      linearizable = subst (λ k. IsLinearizable k (events ++ event ∷ [])) a.capacity_is read.1;
-    }
+audits_more {Q} items_of capacity auditor after events event same reads a = grind arith
 
 -- ---- at the start and at the end
 
@@ -125,27 +119,8 @@ pub begins_run : {Q E : Type 0} (items_of : Q → List ℕ) (is_cut : Bool) (cap
     (untold : Untold) → before ≡ [] → word ≡ word_text (first_word is_cut) → n ≡ capacity → text ≡ before ++ list_line word (n ∷ []) → Audits items_of auditor []
     → meant auditor.capacity ≡ exactly capacity → IsLinearizable (meant auditor.capacity) [] → untold.items.now ≡ items → left_of untold ≡ all
     → HasTold items_of is_cut capacity shape items all text auditor untold (record { puts = RECORDED; takes = RECORDED }) begun.Nothing
-begins_run {Q} items_of is_cut capacity shape items all text before word n auditor untold none word_is same is audits capacity_is linearizable items_are left_is = record {
-  events = [];
-  is_written = record {
-    text_is = is ∙ ap₂ (λ (a : List ℕ) (b : List ℕ). a ++ b) none (ap₂ list_line word_is (ap (λ (k : ℕ). k ∷ []) same) ∙ line_is (first_word is_cut) (capacity ∷ []))
-        ∙ sym (append-nil (text_of (line (first_word is_cut) (capacity ∷ []))));
-    begun_is = refl;
-    small = tt;
-  };
-  is_audited = record {
-    audits = audits;
-    capacity_is = capacity_is;
-    linearizable = subst (λ k. IsLinearizable k []) capacity_is linearizable;
-  };
-  is_left = record {
-    in_order = tt;
-    items_are = items_are;
-    tells = subst (λ (a : RunCounts). TellAllBut (left_of untold) a []) left_is (tells_nothing (left_of untold));
-    puts = refl;
-    takes = refl;
-  };
-}
+begins_run {Q} items_of is_cut capacity shape items all text before word n auditor untold none word_is same is audits capacity_is linearizable items_are left_is =
+    grind (arith, ap₂, line_is, append-nil, tells_nothing)
 
 pub records_run : {Q E : Type 0} (items_of : Q → List ℕ) (is_cut : Bool) (shape : Shape) (n : ℕ) (items : List ℕ) (all : RunCounts) (text : List ℕ) (auditor : CallAuditor Q E) (untold : Untold)
     (room : Room) (b : Begun) → HistoryHasARecording → LinearizableIsInTurn → n ≡ capacity_of shape → 0 < n → n ≤ 64

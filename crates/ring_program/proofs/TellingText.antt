@@ -28,21 +28,12 @@ IsToldSoFar capacity h rest b text =
 
 pub telling_begins : (capacity n : ℕ) (h : List Event) (text before word : List ℕ) → before ≡ [] → word ≡ word_text Queue → n ≡ capacity
     → text ≡ before ++ list_line word (n ∷ []) → IsToldSoFar capacity h h begun.Nothing text
-telling_begins capacity n h text before word none word_is same is = (
-  ap (λ (t : List ℕ). t ++ lines_text (lines_of begun.Nothing h))
-      (sym (is ∙ ap₂ (λ (a : List ℕ) (b : List ℕ). a ++ b) none (ap₂ list_line word_is (ap (λ (k : ℕ). k ∷ []) same) ∙ line_is Queue (capacity ∷ [])))),
-  λ small. small,
-)
+telling_begins capacity n h text before word none word_is same is = grind (arith, ap₂, line_is)
 
 pub telling_goes_on : (capacity : ℕ) (h : List Event) (event : Event) (rest : List Event) (b : Begun) (text : List ℕ) (next : Begun) (after : List ℕ)
     → after ≡ text ++ text_of (line_of b event) → next ≡ begun_after b (line_of b event).word (line_of b event).numbers
     → AreSmall (numbers_in event) → IsToldSoFar capacity h (event ∷ rest) b text → IsToldSoFar capacity h rest next after
-telling_goes_on capacity h event rest b text next after pushed next_is small (whole, smalls) =
-    let l = line_of b event in (
-      whole ∙ sym (append_assoc text (text_of l) (lines_text (lines_of (begun_after b l.word l.numbers) rest)))
-          ∙ ap₂ (λ (t : List ℕ) (x : Begun). t ++ lines_text (lines_of x rest)) (sym pushed) (sym next_is),
-      λ others. smalls (small, others),
-    )
+telling_goes_on capacity h event rest b text next after pushed next_is small (whole, smalls) = grind (arith, append_assoc, ap₂)
 
 pub telling_is_told : (capacity : ℕ) (h rest : List Event) (b : Begun) (text : List ℕ) → rest ≡ [] → IsToldSoFar capacity h rest b text
     → text ≡ lines_text (line Queue (capacity ∷ []) ∷ lines_of begun.Nothing h)
@@ -61,13 +52,8 @@ told_is_recording is_cut capacity n h text same some few law in_turn small is =
 pub near_more : (script : Content) (left next : List ℕ) (told : List (CallEvent ℕ ℕ)) (i : ℕ) (other : CallEvent ℕ ℕ) (event : Event) → i < length told
     → event ≡ event_by (offered script) (first_items left) (get_or told i other) → next ≡ drop (items_by (get_or told i other)) left
     → near_calls script left (drop i told) ≡ event ∷ near_calls script next (drop (i + 1) told)
-near_more script left next told i other event within is next_is =
-    ap (near_calls script left) (drop_more told i other within)
-    ∙ ap₂ (λ (e : Event) (l : List ℕ). e ∷ near_calls script l (drop (i + 1) told)) (sym is) (sym next_is)
+near_more script left next told i other event within is next_is = grind (arith, drop_more, ap₂)
 
 pub told_more : (script : Content) (items : List ℕ) (told : List (CallEvent ℕ TakenItems)) (i : ℕ) (other : CallEvent ℕ TakenItems) (event : Event) → i < length told → items ≡ script.items
     → event ≡ event_by (offered script) (items_behind items) (get_or told i other) → call_events script (drop i told) ≡ event ∷ call_events script (drop (i + 1) told)
-told_more script items told i other event within same is =
-    ap (call_events script) (drop_more told i other within)
-    ∙ ap (λ (e : Event). e ∷ call_events script (drop (i + 1) told))
-    (sym (is ∙ ap (λ (from : List ℕ). event_by (offered script) (items_behind from) (get_or told i other)) same))
+told_more script items told i other event within same is = grind (arith, drop_more)

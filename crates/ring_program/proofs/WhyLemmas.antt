@@ -56,10 +56,7 @@ fault_of_kind shape h verdict place kind k is kind_is there = subst (λ x. IsFau
 -- the reason, for the event there
 pub why_there : (shape : Shape) (h : List Event) (verdict : Verdict) (place : ℕ) (kind k : Kind) (d : Event) (more : List ℕ) → verdict ≡ Fault place kind → kind ≡ k
     → IsFaultThere shape h verdict → TellsWhyAt shape (take place h) (get_or h place d) k more → TellsWhy shape h verdict more
-why_there shape h verdict place kind k d more is kind_is there told =
-    let within = fault_within shape h verdict place kind is there in
-    subst (λ v. TellsWhy shape h v more) (sym is)
-    (get_or h place d, slice_get-get_or h place d within, subst (λ x. TellsWhyAt shape (take place h) (get_or h place d) x more) (sym kind_is) told)
+why_there shape h verdict place kind k d more is kind_is there told = grind (arith, fault_within shape h verdict place kind is there, slice_get-get_or)
 
 -- the fault that a verdict on the bits reports is there
 there_by_verdict : (shape : Shape) (h : List Event) (verdict : Verdict) → IsVerdict shape h verdict → IsFaultThere shape h verdict
@@ -81,5 +78,4 @@ there_by_finding shape h (audit.Fault place NotPermitted) is = is.kind_is
 pub there_by_judgement : (what : Audited) (shape : Shape) (h : List Event) (words : List ℕ) (verdict : Verdict) → IsJudged what shape h words verdict
     → IsFaultThere shape h verdict
 there_by_judgement Bits shape h words verdict judged = there_by_verdict shape h verdict judged.0
-there_by_judgement Programs shape h words verdict (found, is, sentence, linearizable, tells, same) =
-    subst (λ v. IsFaultThere shape h v) (sym same) (there_by_finding shape h found is)
+there_by_judgement Programs shape h words verdict (found, is, sentence, linearizable, tells, same) = grind (arith, there_by_finding)

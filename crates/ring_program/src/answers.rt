@@ -151,6 +151,7 @@ pub fn tell<E: Write>(err: &mut E, text: &[u8]) -> bool
 }
 
 // The line that reports a refusal.
+#[tactic(auto, using(crate::proofs::InlineLines::written))]
 fn line_of(refusal: Refusal) -> Option<InlineText<LINE>>
     ensures { IfSome result (λ line. inline_text line ≡ refusal_line refusal) }
 {

@@ -192,6 +192,7 @@ pub(crate) enum Request {
 }
 
 // The command with the class that a register is to have.
+#[tactic(auto, using(crate::proofs::CommandLemmas::if_ok, crate::proofs::CommandLemmas::adds_option, std::proofs::Common::rules))]
 fn with_at_least<'a>(alloc: Global, command: Command<'a>) -> Result<Command<'a>, AllocError>
     ensures { IfOk result (HasOption at_least_rule command.entry) }
 {
@@ -223,6 +224,7 @@ fn audit<'a>(alloc: Global) -> Result<Command<'a>, AllocError>
 }
 
 // The command with the near miss.
+#[tactic(auto, using(crate::proofs::CommandLemmas::if_ok, crate::proofs::CommandLemmas::adds_option, std::proofs::Common::rules))]
 fn with_wrong<'a>(alloc: Global, command: Command<'a>) -> Result<Command<'a>, AllocError>
     ensures { IfOk result (HasOption wrong_rule command.entry) }
 {

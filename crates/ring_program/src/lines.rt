@@ -18,6 +18,7 @@ fn push_number<A: Allocator>(text: &mut String<A>, number: u64) -> Result<(), Ap
 }
 
 // A line of a word and a number.
+#[tactic(auto, using(crate::proofs::TextLemmas::behind, std::proofs::Common::codes))]
 pub fn push_count<A: Allocator>(
     text: &mut String<A>,
     word: &str,
@@ -43,6 +44,7 @@ fn push_numbers<A: Allocator>(text: &mut String<A>, numbers: &[u64]) -> Result<(
 }
 
 // A line of a word and the items of a list.
+#[tactic(auto, using(crate::proofs::TextLemmas::behind, std::proofs::Common::codes))]
 pub fn push_list<A: Allocator>(
     text: &mut String<A>,
     word: &str,

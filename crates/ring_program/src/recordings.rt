@@ -67,6 +67,7 @@ fn read_lines<A: Allocator + Copy>(
 }
 
 // Reads a piece; if it should stop there, only up to the first fault.
+#[tactic(auto, using(crate::proofs::ReadingLemmas::with_stop))]
 fn read_piece<A: Allocator + Copy>(
     recording: &mut Recording<A>,
     stop: bool,
@@ -141,6 +142,7 @@ fn read_calls<A: Allocator + Copy, I: Read>(
 }
 
 // The text of a report.
+#[tactic(auto, using(std::proofs::Common::codes, crate::proofs::TextLemmas::behind))]
 fn report_text<A: Allocator>(alloc: A, report: &CallsReport) -> Result<String<A>, AppFault>
     ensures text { IfOk result (λ text. string_bytes text ≡ calls_report_text_of report.now) }
     ensures memory { IfErr result (λ e. e ≡ AppFault.OutOfMemory) }

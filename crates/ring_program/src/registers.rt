@@ -107,6 +107,7 @@ fn read_register_lines<A: Allocator + Copy>(
 }
 
 // Reads a piece; if it should stop there, only to the first line at which the class is missed.
+#[tactic(auto, using(crate::proofs::ReadingLemmas::with_stop))]
 fn read_register_piece<A: Allocator + Copy>(
     recording: &mut Recorded<A>,
     class: Class,

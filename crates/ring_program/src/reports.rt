@@ -13,6 +13,7 @@ use std::alloc::Allocator;
 /// overlapped by a write.
 ///
 /// In use: `lamport_ring play`.
+#[tactic(auto, using(std::proofs::Common::codes, crate::proofs::TextLemmas::behind))]
 pub fn report_text<A: Allocator, B: Allocator>(
     alloc: A,
     report: &Report<'_, Vec<Event, B>, Vec<u64, B>>,

@@ -119,6 +119,7 @@ fn with_required<'a>(
 }
 
 // The command with the limit of takes.
+#[tactic(auto, using(crate::proofs::CommandLemmas::if_ok, crate::proofs::CommandLemmas::adds_option, std::proofs::Common::rules))]
 fn with_takes<'a>(alloc: Global, command: Command<'a>) -> Result<Command<'a>, AllocError>
     ensures { IfOk result (HasOption (number_rule (codes "takes") largest) command.entry) }
 {
@@ -127,6 +128,7 @@ fn with_takes<'a>(alloc: Global, command: Command<'a>) -> Result<Command<'a>, Al
 }
 
 // The command with the batch, which may be left out, and is then 1.
+#[tactic(auto, using(crate::proofs::CommandLemmas::if_ok, crate::proofs::CommandLemmas::adds_option, std::proofs::Common::rules))]
 fn with_batch<'a>(alloc: Global, command: Command<'a>) -> Result<Command<'a>, AllocError>
     ensures { IfOk result (HasOption batch_rule command.entry) }
 {
@@ -145,6 +147,7 @@ fn with_take_batch<'a>(alloc: Global, command: Command<'a>) -> Result<Command<'a
 }
 
 // The command with the ring, which is `flicker` if left out.
+#[tactic(auto, using(crate::proofs::CommandLemmas::if_ok, crate::proofs::CommandLemmas::adds_option, std::proofs::Common::rules))]
 fn with_ring<'a>(alloc: Global, command: Command<'a>) -> Result<Command<'a>, AllocError>
     ensures { IfOk result (HasOption ring_rule command.entry) }
 {

@@ -66,6 +66,7 @@ impl<'r> Untold<'r> {
     }
 
     // What is left after a put of these items has begun, if they are the next ones.
+    #[tactic(auto, using(crate::proofs::RunTelling::next_items, crate::proofs::RunTelling::offered_next))]
     fn behind_offer(self, shape: &Shape, offered: &[u64]) -> Option<Untold<'r>>
         ensures { IfSome result (λ after. (offered.now ≡ take (batch_of shape.now) self.entry.items.now) ×
             TakesOff self.entry (PutBegin offered.now) after) }

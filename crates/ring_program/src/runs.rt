@@ -63,6 +63,7 @@ fn closed_words(closed: bool) -> &'static str
 /// Closed.
 ///
 /// In use: `lamport_ring run`.
+#[tactic(auto, using(std::proofs::Common::codes, crate::proofs::TextLemmas::behind))]
 pub fn relay_text<A: Allocator, B: Allocator>(
     alloc: A,
     outcome: &Outcome<B>,

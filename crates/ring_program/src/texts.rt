@@ -32,6 +32,7 @@ pub fn verdict_text<A: Allocator>(alloc: A, verdict: &Verdict) -> Result<String<
 }
 
 // The lines of a history that is lawful and of the programs.
+#[tactic(auto, using(std::proofs::Common::codes, crate::proofs::TextLemmas::behind))]
 fn lists_text<A: Allocator>(
     alloc: A,
     put: &[u64],

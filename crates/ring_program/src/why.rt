@@ -116,6 +116,7 @@ fn push_open<A: Allocator>(
 }
 
 // What the bit held, since when, and where the read began.
+#[tactic(auto, using(std::proofs::Common::codes, crate::proofs::TextLemmas::behind))]
 fn push_held<A: Allocator>(
     text: &mut String<A>,
     value: bool,

@@ -1,12 +1,9 @@
-use Rattle.std.proofs.Common.{string_bytes}
+use Rattle.std.proofs.Common.{string_bytes, arith}
 use Rattle.ring_program.proofs.WhyLemmas.{there_by_judgement}
 use Rattle.ring_program.proofs.audits.audit_answer.Goals as goal
 
 pub push_asked-requires : goal.push_asked-requires
-push_asked-requires g c = record {
-  there = rw c.as_slice-2.ensures.value
-      (there_by_judgement c.args.what c.in_ok-shape.shape c.in_ok-shape.events.items _ c.in_ok-text.verdict (rw c.as_slice.ensures.value at c.in_ok-text.ensures.judged));
-}
+push_asked-requires g c = grind (arith, there_by_judgement, c.as_slice-2.ensures.value, c.as_slice.ensures.value, c.in_ok-text.ensures.judged)
 
 pub returns-clause-answered : goal.returns-clause-answered
 returns-clause-answered g c = record {

@@ -1,4 +1,4 @@
-use Rattle.std.proofs.Common.{◌≡◌, ◌∙◌, ap, Bool, true, false, List, Option, Some, None, sym}
+use Rattle.std.proofs.Common.{◌≡◌, ◌∙◌, ap, Bool, true, false, List, Option, Some, None, sym, arith}
 use Rattle.clap.proofs.WalkLemmas.{first_value-rows}
 use Rattle.clap.specs.Words.{Row, Text, first_of, found_of, rows_of}
 use Rattle.std.specs.Prelude.{codes, option_map}
@@ -14,21 +14,12 @@ by_rows rows register name report bits long calls stop why a b d e f g h k = λ 
 
 pub returns-then-is_given : goal.returns-then-is_given
 returns-then-is_given c =
-    let found = found_of c.args.matches.now in
-    c.register_request.ensures ∙ by_rows (rows_of found) true _ _ _ _ _ _ _ (sym c.if-is_given.true ∙ c.is_given.ensures) (c.get_str-name.ensures ∙ first_value-rows found (codes "at-least"))
-    c.is_given-report.ensures c.is_given-bits.ensures c.is_given-long.ensures c.is_given-calls.ensures c.is_given-stop.ensures c.is_given-why.ensures
+    grind (arith, by_rows, first_value-rows, c.register_request.ensures, c.if-is_given.true, c.is_given.ensures, c.get_str-name.ensures, c.is_given-report.ensures, c.is_given-bits.ensures, c.is_given-long.ensures, c.is_given-calls.ensures, c.is_given-stop.ensures, c.is_given-why.ensures)
 
 pub returns-in-Some : goal.returns-in-Some
 returns-in-Some c =
-    let found = found_of c.args.matches.now in
-    ap (λ o. audit_asked false (option_map (λ n. n.now) o) c.is_given-report.result c.is_given-bits.result c.is_given-long.result c.is_given-calls.result c.is_given-stop.result c.is_given-why.result) (sym c.in-Some.is)
-    ∙ by_rows (rows_of found) false _ _ _ _ _ _ _ (sym c.if-is_given.false ∙ c.is_given.ensures) (c.get_str-name.ensures ∙ first_value-rows found (codes "at-least"))
-    c.is_given-report.ensures c.is_given-bits.ensures c.is_given-long.ensures c.is_given-calls.ensures c.is_given-stop.ensures c.is_given-why.ensures
+    grind (arith, by_rows, first_value-rows, c.in-Some.is, c.if-is_given.false, c.is_given.ensures, c.get_str-name.ensures, c.is_given-report.ensures, c.is_given-bits.ensures, c.is_given-long.ensures, c.is_given-calls.ensures, c.is_given-stop.ensures, c.is_given-why.ensures)
 
 pub returns-else-report : goal.returns-else-report
 returns-else-report c =
-    let found = found_of c.args.matches.now in
-    c.trace_request.ensures
-    ∙ ap (λ o. audit_asked false (option_map (λ n. n.now) o) false c.is_given-bits.result c.is_given-long.result c.is_given-calls.result c.is_given-stop.result c.is_given-why.result) (sym c.in-None.is)
-    ∙ by_rows (rows_of found) false _ false _ _ _ _ _ (sym c.if-is_given.false ∙ c.is_given.ensures) (c.get_str-name.ensures ∙ first_value-rows found (codes "at-least"))
-    (sym c.if-report.false ∙ c.is_given-report.ensures) c.is_given-bits.ensures c.is_given-long.ensures c.is_given-calls.ensures c.is_given-stop.ensures c.is_given-why.ensures
+    grind (arith, by_rows, first_value-rows, c.trace_request.ensures, c.in-None.is, c.if-is_given.false, c.is_given.ensures, c.get_str-name.ensures, c.if-report.false, c.is_given-report.ensures, c.is_given-bits.ensures, c.is_given-long.ensures, c.is_given-calls.ensures, c.is_given-stop.ensures, c.is_given-why.ensures)

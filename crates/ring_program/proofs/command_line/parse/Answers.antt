@@ -1,4 +1,4 @@
-use Rattle.std.proofs.Common.{◌≡◌, ◌∙◌, ap, refl, true, [], List, Result, Ok, Err, IfOk, IfErr, OnOk}
+use Rattle.std.proofs.Common.{◌≡◌, ◌∙◌, ap, refl, true, [], List, Result, Ok, Err, IfOk, IfErr, OnOk, arith}
 use Rattle.clap.proofs.OnLiterals.{clap_on_literals}
 use Rattle.clap.specs.Words.{App, FailsBy, HasKind, HasMatchesOf, Kinds, Text, fault_of, is_simple, is_simple_and_free, subcommand_of, subcommand_rows_of}
 use Rattle.clap.specs.declared.error.Error.{Error}
@@ -36,12 +36,10 @@ found app words (Ok m) is h = rw is at ((h (ap is_simple is ∙ application_is_s
 found app words (Err e) is h = tt
 
 pub returns-clause-taken : goal.returns-clause-taken
-returns-clause-taken c =
-    taken _ _ (fails _ _ _ c.in_ok-command.ensures c.try_get_matches_from.ensures.kinds)
+returns-clause-taken c = search (arith, taken, fails, c.in_ok-command.ensures, c.try_get_matches_from.ensures.kinds)
 
 pub returns-clause-found : goal.returns-clause-found
 returns-clause-found c = found _ _ _ c.in_ok-command.ensures c.try_get_matches_from.ensures.matches
 
 pub returns-clause-kinds : goal.returns-clause-kinds
-returns-clause-kinds c =
-    kind _ _ (fails _ _ _ c.in_ok-command.ensures c.try_get_matches_from.ensures.kinds)
+returns-clause-kinds c = search (arith, kind, fails, c.in_ok-command.ensures, c.try_get_matches_from.ensures.kinds)

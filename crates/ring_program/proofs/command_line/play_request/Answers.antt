@@ -1,4 +1,4 @@
-use Rattle.std.proofs.Common.{◌≡◌, ◌∙◌, ap, codes, Bool, List, Option, refl, Some}
+use Rattle.std.proofs.Common.{◌≡◌, ◌∙◌, ap, codes, Bool, List, Option, refl, Some, arith}
 use Rattle.std.specs.Prelude.{option_and_then}
 use Rattle.clap.proofs.WalkLemmas.{first_value-rows}
 use Rattle.clap.specs.Words.{Row, Text, first_of, found_of, rows_of}
@@ -11,19 +11,11 @@ by_rows : (rows : List Row) (name : Option Text) (trace calls : Bool) → name �
 by_rows rows name trace calls named traced called = λ i. play_by (named i) (traced i) (called i)
 
 pub returns-in-None : goal.returns-in-None
-returns-in-None c =
-    let found = found_of c.args.matches.now in
-    c.play_asked.ensures ∙ by_rows (rows_of found) _ _ _ (c.in-None.ensures ∙ first_value-rows found (codes "wrong")) c.is_given-trace.ensures c.is_given-calls.ensures
+returns-in-None c = grind (arith, by_rows, first_value-rows, codes, c.play_asked.ensures, c.in-None.ensures, c.is_given-trace.ensures, c.is_given-calls.ensures)
 
 pub returns-in_ok-named-in-Some : goal.returns-in_ok-named-in-Some
 returns-in_ok-named-in-Some c =
-    let found = found_of c.args.matches.now in
-    c.play_asked-in-Some.ensures ∙ ap (option_and_then (λ miss. play_asked c.is_given-trace.result c.is_given-calls.result (Some miss))) c.in_ok-named-in-Some.ensures
-    ∙ by_rows (rows_of found) _ _ _ (c.in-Some.ensures ∙ first_value-rows found (codes "wrong")) c.is_given-trace.ensures c.is_given-calls.ensures
+    grind (arith, by_rows, first_value-rows, codes, c.play_asked-in-Some.ensures, c.in_ok-named-in-Some.ensures, c.in-Some.ensures, c.is_given-trace.ensures, c.is_given-calls.ensures)
 
 pub returns-in_err-named-in-Some : goal.returns-in_err-named-in-Some
-returns-in_err-named-in-Some c =
-    let found = found_of c.args.matches.now in
-    let asked = play_asked (is_flag_given (codes "trace") (rows_of found)) (is_flag_given (codes "calls") (rows_of found)) in
-    c.from_residual.ensures ∙ ap (option_and_then (λ miss. asked (Some miss))) c.in_err-named-in-Some.ensures
-    ∙ by_rows (rows_of found) _ _ _ (c.in-Some.ensures ∙ first_value-rows found (codes "wrong")) refl refl
+returns-in_err-named-in-Some c = grind (arith, codes, by_rows, first_value-rows, c.from_residual.ensures, c.in_err-named-in-Some.ensures, c.in-Some.ensures)

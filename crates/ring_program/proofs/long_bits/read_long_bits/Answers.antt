@@ -1,4 +1,4 @@
-use Rattle.std.proofs.Common.{rules, ◌≡◌, ℕ, List, [], Result, Ok, Err, IfErr, inr, subst, sym, refl, append_assoc}
+use Rattle.std.proofs.Common.{rules, ◌≡◌, ℕ, List, [], Result, Ok, Err, IfErr, inr, subst, sym, refl, append_assoc, arith}
 use Rattle.std.specs.Result.{IsErrAnd}
 use Rattle.std.proofs.KnownBytes.{Consumes-nil, Consumes-trans}
 use Rattle.trace_text.specs.Trace.{RefusesTraceText}
@@ -29,8 +29,7 @@ loop-preserved g c = (
 
 pub returns-then-count-eq0-clause-told : goal.returns-then-count-eq0-clause-told
 returns-then-count-eq0-clause-told g c =
-    let came = c.loop.invariant.0 in
-    of_whole _ _ _ came _ c.in-Ok.count _ c.loop.invariant.1 c.in-Ok.ensures.bytes.0 c.if-count-eq0.true (c.in-Ok.ensures.bytes.1 c.if-count-eq0.true (search rules)) (c.in_ok-verdict.ensures.told came c.loop.invariant.2)
+    search (arith, of_whole, rules, c.loop.invariant.0, c.loop.invariant.1, c.in-Ok.ensures.bytes.0, c.if-count-eq0.true, c.in-Ok.ensures.bytes.1, c.in_ok-verdict.ensures.told, c.loop.invariant.2)
 
 pub returns-in_err-verdict-clause-refused : goal.returns-in_err-verdict-clause-refused
 returns-in_err-verdict-clause-refused g c =

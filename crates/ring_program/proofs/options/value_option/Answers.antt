@@ -1,4 +1,4 @@
-use Rattle.std.proofs.Common.{◌∙◌, Some, ap}
+use Rattle.std.proofs.Common.{◌∙◌, Some, ap, arith}
 use Rattle.clap.specs.Words.{Rule, rule_of}
 use Rattle.clap.specs.declared.builder.action.ArgAction.TheVariants.{Set}
 use Rattle.clap.specs.declared.builder.arg.Arg.{Arg}
@@ -11,9 +11,7 @@ abbrev has_value : Rule → Rule
 has_value rule = record rule { action = Some Set; value_names = 1 }
 
 pub returns-clause-rule : goal.returns-clause-rule
-returns-clause-rule c =
-    ap rule_of (c.action.ensures ∙ ap sets c.value_name-option.ensures) ∙ ap has_value c.named_option.ensures.rule
+returns-clause-rule c = grind (arith, c.action.ensures, c.value_name-option.ensures, c.named_option.ensures.rule)
 
 pub returns-clause-local : goal.returns-clause-local
-returns-clause-local c =
-    ap (λ a. a.global) (c.action.ensures ∙ ap sets c.value_name-option.ensures) ∙ c.named_option.ensures.local
+returns-clause-local c = grind (arith, c.action.ensures, c.value_name-option.ensures, c.named_option.ensures.local)

@@ -1,4 +1,4 @@
-use Rattle.std.proofs.Common.{◌∙◌, Some, ap}
+use Rattle.std.proofs.Common.{◌∙◌, Some, ap, arith}
 use Rattle.clap.specs.Words.{Rule, rule_of}
 use Rattle.clap.specs.declared.builder.action.ArgAction.TheVariants.{SetTrue}
 use Rattle.clap.specs.declared.builder.arg.Arg.{Arg}
@@ -10,7 +10,4 @@ sets rule = record rule { action = Some SetTrue }
 
 -- an option that sets a flag has its rule, and is local as it was
 pub returns : goal.returns
-returns c =
-    if_ok _
-    (adds_option _ c.action.result _ (ap rule_of c.action.ensures ∙ ap sets c.named_option.ensures.rule) (ap (λ (arg : Arg). arg.global) c.action.ensures ∙ c.named_option.ensures.local))
-    c.arg.ensures
+returns c = grind (arith, if_ok, adds_option, c.action.ensures, c.named_option.ensures.rule, c.named_option.ensures.local, c.arg.ensures)

@@ -1,13 +1,7 @@
-use Rattle.std.proofs.Common.{◌∙◌, ℕ, List, ap₂}
+use Rattle.std.proofs.Common.{◌∙◌, ℕ, List, ap₂, arith}
 use Rattle.queue_calls.specs.declared.events.CallEvent.{CallEvent}
 use Rattle.ring_program.specs.Texts.{near_calls, told_text_of}
 use Rattle.ring_program.proofs.plays.wrong_calls.Goals as goal
 
 pub returns-clause-told : goal.returns-clause-told
-returns-clause-told g c = (
-  _,
-  _,
-  _,
-  c.in_ok-play.ensures.plays,
-  c.in_ok-near_text.ensures.text ∙ ap₂ (λ (taken : List ℕ) (told : List (CallEvent ℕ ℕ)). told_text_of c.args.script.now (near_calls c.args.script.now taken told)) c.as_slice-2.ensures.value c.as_slice.ensures.value,
-)
+returns-clause-told g c = grind (arith, ap₂, c.in_ok-play.ensures.plays, c.in_ok-near_text.ensures.text, c.as_slice-2.ensures.value, c.as_slice.ensures.value)

@@ -1,4 +1,4 @@
-use Rattle.std.proofs.Common.{Err, Some, ap}
+use Rattle.std.proofs.Common.{Err, Some, ap, arith}
 use Rattle.ring_program.proofs.Endings.{ends_on, question_may_end, read_whole, status_on, unread}
 use Rattle.ring_program.proofs.Gains.{tells_line}
 use Rattle.ring_program.specs.Answers.{EndsOn}
@@ -26,7 +26,4 @@ returns-in-Err-clause-asked g c =
     c.in-Err.ensures.no_run (λ is. c.in-Err.ensures.too_large (ap Err is)) (tells_line before after c.refuse.result.is_told (refusal.App c.in-Err.fault) c.refuse.ensures.told)
 
 pub returns-in-Ok-clause-statuses : goal.returns-in-Ok-clause-statuses
-returns-in-Ok-clause-statuses g c =
-    let answered = c.answer_to-answered in
-    status_on (OnInput c.args.question) _ _ (Gains (g.E.Write.contents c.args.err.now) (g.E.Write.contents c.deliver.new.err) c.deliver.result.is_told)
-    answered.result c.deliver.result.status (question_may_end c.args.question _ answered.result answered.ensures.answered) c.deliver.ensures.delivered
+returns-in-Ok-clause-statuses g c = grind (arith, status_on, question_may_end, c.deliver.ensures.delivered)

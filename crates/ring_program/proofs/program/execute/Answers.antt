@@ -1,4 +1,4 @@
-use Rattle.std.proofs.Common.{◌≡◌, ◌⊎◌, ◌∙◌, ℕ, List, [], Option, Some, None, inl, inr, refl, subst, sym, IfSome, IfNone}
+use Rattle.std.proofs.Common.{◌≡◌, ◌⊎◌, ◌∙◌, ℕ, List, [], Option, Some, None, inl, inr, refl, subst, sym, IfSome, IfNone, arith}
 use Rattle.clap.specs.Words.{HasKind, Kinds, kind_of}
 use Rattle.clap.specs.declared.error.Error.{Error}
 use Rattle.clap.specs.declared.error.kind.ErrorKind.{ErrorKind}
@@ -55,11 +55,9 @@ unasked_by : (kinds : Kinds) (e : Error) (before after : Option (List ℕ)) (Tel
 unasked_by kinds e before after Tells status has (inl short) = inl short.1
 unasked_by kinds e before after Tells status has (inr (inl (help, inl short))) = inl short
 unasked_by kinds e before after Tells status (inl is) (inr (inl (help, inr shown))) = absurd (no_help (kind_of e) is help)
-unasked_by kinds e before after Tells status (inr among) (inr (inl (help, inr shown))) =
-    inr (inl (record { asked = kind_of e; among = among; is_help = help; shown = shown }))
+unasked_by kinds e before after Tells status (inr among) (inr (inl (help, inr shown))) = grind arith
 unasked_by kinds e before after Tells status (inl is) (inr (inr mistake)) = absurd (mistake.1 is)
-unasked_by kinds e before after Tells status (inr among) (inr (inr mistake)) =
-    inr (inr (record { ends = mistake.2; kept = mistake.3; mistake = inr (kind_of e, among, mistake.0) }))
+unasked_by kinds e before after Tells status (inr among) (inr (inr mistake)) = grind arith
 
 -- the status of an error of the command line
 status_shown : (before after : Option (List ℕ)) (Tells : List ℕ → Type 0) (status : ℕ) → WasWritten before after Tells status → (status ≡ 0) ⊎ ((status ≡ 1) ⊎ (status ≡ 2))
@@ -100,8 +98,7 @@ pub returns-in-Err-clause-statuses : goal.returns-in-Err-clause-statuses
 returns-in-Err-clause-statuses g c = status_by _ (kind_of c.in-Err.error) _ _ (Gains (g.E.Write.contents c.args.err.now) (g.E.Write.contents c.explain.new.err) c.explain.result.is_told) c.explain.result.status c.explain.ensures.explained c.in-Err.ensures.refused
 
 pub returns-in-Ok-Some-clause-asked : goal.returns-in-Ok-Some-clause-asked
-returns-in-Ok-Some-clause-asked g c =
-    asked_so _ c.in-Ok-Some.request (g.I.Read.remaining c.args.input.now) _ _ _ c.respond.result.status (sym c.in-Ok-Some.field-0-is ∙ c.in-Ok-Some.ensures.asked) c.respond.ensures.asked
+returns-in-Ok-Some-clause-asked g c = grind (arith, asked_so, c.in-Ok-Some.ensures.asked, c.respond.ensures.asked)
 
 pub returns-in-Ok-Some-clause-statuses : goal.returns-in-Ok-Some-clause-statuses
 returns-in-Ok-Some-clause-statuses g c = status_so _ c.in-Ok-Some.request c.respond.result.status (sym c.in-Ok-Some.field-0-is ∙ c.in-Ok-Some.ensures.asked) c.respond.ensures.statuses

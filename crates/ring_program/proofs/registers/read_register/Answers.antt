@@ -1,4 +1,4 @@
-use Rattle.std.proofs.Common.{rules, false, ◌≡◌, ℕ, List, [], Result, Ok, Err, IfErr, inl, inr, subst, sym, refl, append_assoc}
+use Rattle.std.proofs.Common.{rules, false, ◌≡◌, ℕ, List, [], Result, Ok, Err, IfErr, inl, inr, subst, sym, refl, append_assoc, arith}
 use Rattle.std.specs.Result.{IsErrAnd}
 use Rattle.std.proofs.KnownBytes.{Consumes-nil, Consumes-trans}
 use Rattle.register_recordings.specs.Recordings.{RefusesRegisterText}
@@ -34,8 +34,7 @@ loop-preserved g c = (
 
 pub returns-then-count-eq0-clause-found : goal.returns-then-count-eq0-clause-found
 returns-then-count-eq0-clause-found g c =
-    let came = c.loop.invariant.0 in
-    of_whole _ _ _ came _ c.in-Ok.count _ c.loop.invariant.1 c.in-Ok.ensures.bytes.0 c.if-count-eq0.true (c.in-Ok.ensures.bytes.1 c.if-count-eq0.true (search rules)) (register_at_end c.args.stop c.args.class came _ _ c.loop.invariant.4 (c.in_ok-found_at_end.ensures.found came c.loop.invariant.2))
+    search (arith, of_whole, rules, register_at_end, c.loop.invariant.0, c.loop.invariant.1, c.in-Ok.ensures.bytes.0, c.if-count-eq0.true, c.in-Ok.ensures.bytes.1, c.loop.invariant.4, c.in_ok-found_at_end.ensures.found, c.loop.invariant.2)
 
 pub returns-in_err-found_at_end-clause-refused : goal.returns-in_err-found_at_end-clause-refused
 returns-in_err-found_at_end-clause-refused g c =

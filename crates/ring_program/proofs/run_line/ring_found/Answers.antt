@@ -1,4 +1,4 @@
-use Rattle.std.proofs.Common.{◌∙◌, ap, codes}
+use Rattle.std.proofs.Common.{◌∙◌, ap, codes, arith}
 use Rattle.std.specs.Prelude.{option_and_then}
 use Rattle.clap.proofs.WalkLemmas.{first_value-rows}
 use Rattle.clap.specs.Words.{found_of}
@@ -6,8 +6,7 @@ use Rattle.ring_program.specs.CommandLine.{ring_in}
 use Rattle.ring_program.proofs.run_line.ring_found.Goals as goal
 
 pub returns-in-Some : goal.returns-in-Some
-returns-in-Some c =
-    c.ring_of.ensures ∙ ap (option_and_then ring_in) (c.in-Some.ensures ∙ first_value-rows (found_of c.args.matches.now) (codes "ring"))
+returns-in-Some c = grind (arith, first_value-rows, codes, c.ring_of.ensures, c.in-Some.ensures)
 
 pub returns-in-None : goal.returns-in-None
 returns-in-None c = ap (option_and_then ring_in) (c.in-None.ensures ∙ first_value-rows (found_of c.args.matches.now) (codes "ring"))

@@ -1,4 +1,4 @@
-use Rattle.std.proofs.Common.{◌∙◌, true, ap}
+use Rattle.std.proofs.Common.{◌∙◌, true, ap, arith}
 use Rattle.clap.specs.Words.{Rule, rule_of}
 use Rattle.clap.specs.declared.builder.arg.Arg.{Arg}
 use Rattle.ring_program.proofs.CommandLemmas.{adds_option, if_ok}
@@ -9,7 +9,4 @@ requires rule = record rule { required = true }
 
 -- a required option has its rule, and is local as it was
 pub returns : goal.returns
-returns c =
-    if_ok _
-    (adds_option _ c.required.result _ (ap rule_of c.required.ensures ∙ ap requires c.number_option.ensures.rule) (ap (λ (arg : Arg). arg.global) c.required.ensures ∙ c.number_option.ensures.local))
-    c.arg.ensures
+returns c = grind (arith, if_ok, adds_option, c.required.ensures, c.number_option.ensures.rule, c.number_option.ensures.local, c.arg.ensures)

@@ -1,4 +1,4 @@
-use Rattle.std.proofs.Common.{◌∙◌, ap, string_bytes}
+use Rattle.std.proofs.Common.{◌∙◌, ap, string_bytes, arith}
 use Rattle.bits_core.specs.Shape.{capacity_of}
 use Rattle.call_lines.specs.Lines.{word_text}
 use Rattle.queue_calls.specs.Told.{told}
@@ -9,14 +9,7 @@ use Rattle.ring_program.proofs.run_recordings.recording_text.Goals as goal
 
 pub lines-init : goal.lines-init
 lines-init g c =
-    let shape = c.args.shape.now in
-    let o = c.args.outcome.now in
-    let items = c.args.items.now in
-    let auditor = c.new-auditor.result in
-    begins_run (λ q. q.items) c.is_cut-is_cut.result (capacity_of shape) shape items (run_counts items o.put o.calls o.full o.taken.items o.takes o.empty o.closed) (string_bytes c.push_list.new.text)
-    _ _ _ auditor c.all-untold.result c.new-text.ensures.bytes (c.text.ensures ∙ ap word_text c.first_word.ensures) c.capacity-capacity.ensures.value c.in_ok-push_list.ensures.ok
-    c.new-auditor.ensures.reads (meant_exactly auditor.capacity c.capacity-capacity.result (capacity_of shape) (c.new-auditor.ensures.capacity ∙ c.exactly.ensures) c.capacity-capacity.ensures.value)
-    (c.has_read.ensures _ c.new-auditor.ensures.reads) c.all-untold.ensures.items c.all-untold.ensures.left
+    grind (arith, begins_run, meant_exactly, c.new-text.ensures.bytes, c.text.ensures, c.first_word.ensures, c.capacity-capacity.ensures.value, c.in_ok-push_list.ensures.ok, c.new-auditor.ensures.reads, c.new-auditor.ensures.capacity, c.exactly.ensures, c.has_read.ensures, c.all-untold.ensures.items, c.all-untold.ensures.left)
 
 pub lines-preserved : goal.lines-preserved
 lines-preserved g c =

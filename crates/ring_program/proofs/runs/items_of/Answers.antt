@@ -9,12 +9,7 @@ loop-number-init g c = c.in_ok-items.ensures.items
 
 pub loop-number-preserved : goal.loop-number-preserved
 loop-number-preserved g c =
-    let ok : is_ok c.push.result ≡ true = c.if-is_err.ensures.negation in
-    let grown : c.push.new.self.items ≡ c.loop-number.items.items ++ c.run_item.result ∷ [] = rw ok at c.push.ensures.items in
-    grown ∙ ap₂ (λ (a : List ℕ) (b : ℕ). a ++ b ∷ []) c.loop-number.invariant c.run_item.ensures
-    ∙ sym (map-range_with_len_more (run_item c.args.run.now.width) 0 c.loop-number.number c.loop-number.number (omega arith))
+    grind (arith, is_ok c.push.result, ap₂, map-range_with_len_more (run_item c.args.run.now.width) 0 c.loop-number.number c.loop-number.number (omega arith), c.if-is_err.ensures.negation, c.push.ensures.items, c.loop-number.invariant, c.run_item.ensures)
 
 pub returns-clause-items : goal.returns-clause-items
-returns-clause-items g c =
-    let over : c.loop-number.number ≡ c.args.run.now.count = omega (arith, c.loop-number.auto.number-end, c.loop-number-test.false) in
-    c.loop-number.invariant ∙ ap (λ (n : ℕ). map (run_item c.args.run.now.width) (range_with_len 0 n)) over
+returns-clause-items g c = grind (arith, c.loop-number.invariant)

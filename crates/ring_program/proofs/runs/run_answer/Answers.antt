@@ -10,9 +10,7 @@ use Rattle.ring_program.proofs.RunItems.{run_items_fit}
 use Rattle.ring_program.proofs.runs.run_answer.Goals as goal
 
 pub relay_run-requires : goal.relay_run-requires
-relay_run-requires g c =
-    let is = c.as_slice-offered.ensures.value ∙ c.in_ok-items.ensures.items in
-    record { fit = subst (AllFit c.in_ok-shape.shape) (sym is) (run_items_fit c.in_ok-shape.shape c.args.run c.in_ok-shape.ensures.width_is) }
+relay_run-requires g c = search (arith, run_items_fit, c.as_slice-offered.ensures.value, c.in_ok-items.ensures.items, c.in_ok-shape.ensures.width_is)
 
 pub returns-clause-answered : goal.returns-clause-answered
 returns-clause-answered g c =

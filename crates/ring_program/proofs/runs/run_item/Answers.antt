@@ -5,7 +5,4 @@ use Rattle.ring_program.proofs.runs.run_item.Goals as goal
 
 -- a number of 64 bits is below the power
 pub returns-else-width-lt64 : goal.returns-else-width-lt64
-returns-else-width-lt64 c =
-    let wide : 2 ^ 64 ≤ 2 ^ c.args.width = pow_mono c.if-width-lt64.false in
-    let small : c.args.number < 2 ^ c.args.width = omega (arith, wide, c.ranges.number.fits) in
-    sym (mod-eq_of_lt small)
+returns-else-width-lt64 c = grind (arith, pow_mono c.if-width-lt64.false, mod-eq_of_lt, c.if-width-lt64.false)

@@ -1,4 +1,4 @@
-use Rattle.std.proofs.Common.{◌≡◌, ◌∙◌, ◌∷◌, ◌+◌, ap, drop, subst, string_bytes}
+use Rattle.std.proofs.Common.{◌≡◌, ◌∙◌, ◌∷◌, ◌+◌, ap, drop, subst, string_bytes, arith}
 use Rattle.std.proofs.lemmas.List.{drop_all}
 use Rattle.bits_core.specs.Shape.{capacity_of}
 use Rattle.queue_calls.specs.Told.{told as event_told}
@@ -7,9 +7,7 @@ use Rattle.ring_program.proofs.TellingText.{IsToldSoFar, telling_begins, telling
 use Rattle.ring_program.proofs.tellings.told_text.Goals as goal
 
 pub loop-each-init : goal.loop-each-init
-loop-each-init g c =
-    telling_begins (capacity_of c.args.script.now.shape) c.capacity.result (call_events c.args.script.now c.args.told.now) _ _ c.text.result.now c.new-text.ensures.bytes c.text.ensures
-    (c.capacity.ensures.value ∙ ap capacity_of c.shape.ensures) c.in_ok-push_list.ensures.ok
+loop-each-init g c = grind (arith, telling_begins, c.new-text.ensures.bytes, c.text.ensures, c.capacity.ensures.value, c.shape.ensures, c.in_ok-push_list.ensures.ok)
 
 pub loop-each-preserved : goal.loop-each-preserved
 loop-each-preserved g c =
@@ -23,11 +21,7 @@ loop-each-preserved g c =
     (subst (λ l. IsToldSoFar (capacity_of script.shape) (call_events script told) l c.loop-each.begun (string_bytes c.loop-each.text)) first c.loop-each.invariant)
 
 pub returns-clause-text : goal.returns-clause-text
-returns-clause-text g c =
-    telling_is_told (capacity_of c.args.script.now.shape) (call_events c.args.script.now c.args.told.now) _ c.loop-each.begun _
-    (ap (call_events c.args.script.now) (drop_all c.loop-each.each-index c.args.told.now c.loop-each-test.false)) c.loop-each.invariant
+returns-clause-text g c = grind (arith, telling_is_told, drop_all, c.loop-each.invariant)
 
 pub returns-clause-small : goal.returns-clause-small
-returns-clause-small g c =
-    telling_is_small (capacity_of c.args.script.now.shape) (call_events c.args.script.now c.args.told.now) _ c.loop-each.begun (string_bytes c.loop-each.text)
-    (ap (call_events c.args.script.now) (drop_all c.loop-each.each-index c.args.told.now c.loop-each-test.false)) c.loop-each.invariant
+returns-clause-small g c = grind (arith, telling_is_small, drop_all, c.loop-each.invariant)

@@ -1,4 +1,4 @@
-use Rattle.std.proofs.Common.{[], refl, string_bytes, subst, sym}
+use Rattle.std.proofs.Common.{[], refl, string_bytes, subst, sym, arith}
 use Rattle.std.proofs.lemmas.List.{append-nil}
 use Rattle.bits_core.specs.declared.faults.Kind.TheVariants.{WrongSide, OutOfTurn, NotPermitted, NotProgram}
 use Rattle.bits_core.specs.declared.audits.Verdict.{Verdict}
@@ -77,5 +77,4 @@ pub slice_bounds-push_fault-end-in-NotPermitted : goal.slice_bounds-push_fault-e
 slice_bounds-push_fault-end-in-NotPermitted g c = fault_behind c.args.shape.now c.args.events.now c.args.verdict c.in-Fault.place c.in-Fault.kind c.in-Fault.is c.requires.there
 
 pub returns-in-Lawful-clause-told : goal.returns-in-Lawful-clause-told
-returns-in-Lawful-clause-told g c =
-    ([], sym (append-nil (string_bytes c.args.text.now)), subst (λ (v : Verdict). TellsWhy c.args.shape.now c.args.events.now v []) (sym c.in-Lawful.is) refl)
+returns-in-Lawful-clause-told g c = grind (arith, append-nil, c.in-Lawful.is)
