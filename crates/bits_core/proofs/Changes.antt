@@ -1,10 +1,10 @@
 -- How what an event may do changes with one more event at the end.
-use Rattle.std.proofs.Common.{◌≡◌, ℕ, suc, Bool, true, false, ◌||◌, not, Option, Some, None, List, ◌∷◌, ◌++◌, refl, ap, ◌∙◌, arith, append-nil, []}
+use Rattle.std.proofs.Common.{◌≡◌, ℕ, suc, Bool, true, false, ◌||◌, Option, Some, None, List, ◌∷◌, ◌++◌, refl, arith, append-nil, []}
 use Rattle.std.proofs.lemmas.Bool.Decides.{nat_tests}
-use Rattle.bits_core.proofs.Common.{slice_get, is_some, if◌then◌else◌, unwrap_or, or_parts, false≢true, Side, Bit, Act, Event, Shape, writer, doer, first_value, is_by, same_side, same_bit}
+use Rattle.bits_core.proofs.Common.{slice_get, is_some, if◌then◌else◌, unwrap_or, or_parts, false≢true, Side, Bit, Act, Event, Shape, writer, doer, is_by, same_side, same_bit}
 use Rattle.bits_core.proofs.Common.{begun_access, write_of, value_written}
 use Rattle.std.specs.Option.{option_to_list}
-use Rattle.bits_core.specs.History.{has_event, open_write, writes_begun, writes_ended, last_value, held, held_at_begin, is_overlapped, is_empty}
+use Rattle.bits_core.specs.History.{has_event, open_write, writes_begun, writes_ended, last_value, held, held_at_begin, is_overlapped}
 use Rattle.bits_core.proofs.StepLemmas.{EachMayFollow}
 use Rattle.bits_core.proofs.Histories.{before_last-push, open_access-push, last_value-push, after_last-at, after_last-not}
 use Rattle.std.proofs.lemmas.List.Elements.{filter_map-append}

@@ -1,5 +1,5 @@
 -- What an audit finds.
-use Rattle.std.proofs.Common.{◌≡◌, ℕ, suc, Option, None, Some, IfSome, List, ◌<◌, ◌≤◌, sym, length, take, refl, subst, inl, inr, arith, get_or}
+use Rattle.std.proofs.Common.{◌≡◌, ℕ, suc, Option, None, Some, IfSome, List, ◌<◌, ◌≤◌, sym, length, take, refl, subst, arith, get_or}
 use Rattle.bits_core.proofs.Common.{cases_order, slice_get, take-take, Event, Shape, MayFollow}
 use Rattle.std.proofs.lemmas.Option.{slice_get-get_or, slice_get_within}
 use Rattle.bits_core.specs.declared.faults.Kind.{Kind}

@@ -1,5 +1,5 @@
 -- How many reads that a write overlapped have ended, and what a memory keeps.
-use Rattle.std.proofs.Common.{◌≡◌, ℕ, zero, suc, ◌+◌, ◌<◌, ◌≤◌, Bool, false, Some, List, ◌∷◌, ◌++◌, length, refl, ap₂, sym, subst, add-zero, length-append, arith, []}
+use Rattle.std.proofs.Common.{◌≡◌, ℕ, zero, suc, ◌+◌, ◌<◌, ◌≤◌, Bool, false, Some, List, ◌∷◌, ◌++◌, length, refl, ap₂, add-zero, length-append, arith, []}
 use Rattle.bits_core.proofs.Common.{slice_get, if◌then◌else◌, Side, Bit, ReadEnd, Read, Event, Shape, open_access, is_overlapped, held_at_begin, IsLawful, MayFollow}
 use Rattle.std.proofs.lemmas.List.{take-append-le, take_at}
 use Rattle.bits_core.specs.Memory.{IsRecord, count_below, ends_read, flicker_count, is_flicker, is_flicker_at}

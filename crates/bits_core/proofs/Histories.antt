@@ -1,11 +1,9 @@
 -- How each function of histories changes with one more event at the end.
 use Rattle.std.proofs.Common.{◌≡◌, ℕ, Bool, true, false, ◌||◌, Option, Some, None, List, ◌∷◌, ◌++◌, ◌+◌, take, drop, refl, ap, ◌∙◌, arith, []}
-use Rattle.bits_core.proofs.Common.{is_some, if◌then◌else◌, slice_get, or_parts, false≢true, Side, Bit, Event, writer, is_by, begun_by, write_of}
+use Rattle.bits_core.proofs.Common.{is_some, if◌then◌else◌, slice_get, or_parts, false≢true, Side, Event, is_by, begun_by}
 use Rattle.std.proofs.lemmas.Option.{slice_get_within, get_or_from_slice_get}
 use Rattle.std.proofs.lemmas.List.{take-append-drop, drop_more}
-use Rattle.std.specs.Option.{option_to_list}
-use Rattle.std.proofs.lemmas.List.Elements.{filter_map-append}
-use Rattle.bits_core.specs.History.{has_event, last_event, before_last, after_last, open_access, writes_begun, writes_ended, last_value, IsLastPlace}
+use Rattle.bits_core.specs.History.{has_event, last_event, before_last, after_last, open_access, last_value, IsLastPlace}
 
 pub has_event-at : (s : Side) (xs : List Event) (e : Event) (ys : List Event) → is_by s e ≡ true → has_event s (xs ++ e ∷ ys) ≡ true
 has_event-at s [] e ys by = rw by refl

@@ -1,15 +1,14 @@
 -- Marks, maintained event by event.
-use Rattle.std.proofs.Common.{◌≡◌, ◌≢◌, ℕ, zero, suc, ◌+◌, ◌<◌, ◌≤◌, ◌||◌, Bool, true, false, not, cond, Option, Some, None, List, ◌∷◌, ◌++◌, length, get_or, take, refl, ap, sym, subst, ◌∙◌, arith, []}
+use Rattle.std.proofs.Common.{◌≡◌, ◌≢◌, ℕ, zero, suc, ◌+◌, ◌<◌, ◌≤◌, ◌||◌, Bool, true, false, cond, Option, Some, None, List, ◌∷◌, ◌++◌, length, get_or, take, refl, ap, sym, subst, ◌∙◌, arith, []}
 use Rattle.bits_core.proofs.Common.{set, if◌then◌else◌, is_some, unwrap_or, none-some, take-length, Side, Bit, Act, ReadBegin, ReadEnd, WriteBegin, WriteEnd, Access, Read, Write, Event, Shape}
 use Rattle.bits_core.proofs.Common.{open_access, open_write, held, held_at_begin, is_overlapped, IsLawful, FitsOpen, MayFollow}
 use Rattle.std.proofs.lemmas.Bool.{false≢true, or_parts, and_parts, ltb-true}
 use Rattle.std.proofs.lemmas.Bool.Decides.{nat_tests}
 use Rattle.std.proofs.lemmas.List.{take_more, get_or-set_same, get_or-set_other, length-set}
 use Rattle.bits_core.specs.declared.events.Side.TheVariants.{P}
-use Rattle.bits_core.specs.declared.events.Bit.TheVariants.{S}
 use Rattle.bits_core.specs.declared.marks.SideMark.{SideMark}
 use Rattle.bits_core.specs.declared.marks.Marks.{Marks}
-use Rattle.bits_core.specs.Bits.{other, writer, reader, doer, first_value, same_bit, same_side, is_by, begun_access, begun_by, write_of, value_written}
+use Rattle.bits_core.specs.Bits.{other, writer, reader, doer, first_value, same_bit, same_side, begun_access, begun_by, write_of, value_written}
 use Rattle.bits_core.specs.Shape.{belongs}
 use Rattle.bits_core.specs.Marks.{AreMarks, IsInTable, IsMark, beside, idle, side_mark, table_place, seat_of, settled, value_ended, with_mark, with_value}
 use Rattle.bits_core.proofs.Changes.{AllByDoer, AllByDoer-lawful, same_bit-true, same_side-same, open_write-push, held-push, held_at_begin-push, is_overlapped-push}

@@ -1,8 +1,8 @@
 -- Why an event may not follow.
-use Rattle.std.proofs.Common.{◌≡◌, ◌∙◌, ℕ, Bool, false, cond, Option, Some, None, List, sym, ap, MatchOption, take, arith}
+use Rattle.std.proofs.Common.{◌≡◌, ◌∙◌, ℕ, Bool, false, Option, Some, List, sym, ap, MatchOption, take, arith}
 use Rattle.std.specs.Prelude.{option_and_then}
 use Rattle.std.specs.List.{list_any}
-use Rattle.bits_core.proofs.Common.{none-some, Side, Bit, Act, Access, Read, Event, begun_by, has_event, held, held_at_begin, is_overlapped, open_access, IsLastPlace, settled, FitsOpen}
+use Rattle.bits_core.proofs.Common.{none-some, Side, Bit, Act, Access, Read, Event, begun_by, has_event, held_at_begin, open_access, IsLastPlace, settled, FitsOpen}
 use Rattle.bits_core.proofs.Common.{IsPermittedAct}
 use Rattle.bits_core.specs.Reasons.{IsHeldSince, IsLastWritten, ends_write}
 use Rattle.bits_core.proofs.Histories.{before_last-place, last_event-none}

@@ -4,7 +4,7 @@ use Rattle.std.specs.Prelude.{if◌then◌else◌, nat_lt, slice_get}
 use Rattle.std.proofs.lemmas.List.{length-append}
 use Rattle.bits_core.specs.Lawful.{IsLawful}
 use Rattle.bits_core.specs.Shape.{width_of}
-use Rattle.bits_core.specs.Memory.{MemoryState, unused}
+use Rattle.bits_core.specs.Memory.{unused}
 use Rattle.bits_core.specs.Oracle.{tape_answer, turn}
 use Rattle.bits_core.specs.declared.shapes.Shape.{Shape}
 use Rattle.ring_player.specs.Actors.{IsAtTurn}

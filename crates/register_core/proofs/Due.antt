@@ -1,5 +1,5 @@
 -- The bit writes that are due, by what the writer remembers.
-use Rattle.std.proofs.Common.{◌≡◌, ℕ, zero, suc, ◌-◌, ◌<◌, ◌≤◌, Bool, true, false, cond, List, [], ◌∷◌, ◌++◌, slice_set, sym, ap, arith, ◌∙◌, ◌⊎◌, inl, inr, eq-or-lt_of_le}
+use Rattle.std.proofs.Common.{◌≡◌, ℕ, zero, suc, ◌-◌, ◌<◌, ◌≤◌, Bool, true, false, cond, List, [], ◌∷◌, slice_set, sym, ap, arith, ◌∙◌, ◌⊎◌, inl, inr, eq-or-lt_of_le}
 use Rattle.register_core.proofs.Common.{cases_lt, clearing, unary_phrase}
 use Rattle.register_core.specs.UnaryState.{UnaryState, IsClearDownTo, bit_in, due_writes, row_fed, row_with}
 

@@ -1,5 +1,5 @@
 -- The writes of a side are those of the accesses that it made.
-use Rattle.std.proofs.Common.{arith, ◌≡◌, ℕ, suc, Bool, true, false, Option, Some, None, List, [], ◌∷◌, ◌++◌, filter_map, slice_get, refl, sym, ap, ◌∙◌}
+use Rattle.std.proofs.Common.{arith, ◌≡◌, ℕ, suc, Bool, true, false, Option, Some, None, List, [], ◌∷◌, filter_map, slice_get, refl, sym, ap, ◌∙◌}
 use Rattle.register_core.proofs.Common.{cons_option, none-some, Side, P, Bit, Cell, Event, Shape, IsLawful, RowWrite, row_bit, writes_in, word_writes, cell_write, logical_writes, writes_of}
 use Rattle.register_core.proofs.Common.{count_write}
 use Rattle.std.proofs.lemmas.List.Elements.{filter_map-append}

@@ -1,5 +1,5 @@
 -- The bit writes of one unary write: the bits that each finds, and the bits that they leave.
-use Rattle.std.proofs.Common.{◌≡◌, ℕ, zero, suc, ◌<◌, ◌≤◌, Bool, true, false, not, cond, List, [], ◌∷◌, ◌++◌, refl, arith, zero-le, eq-or-lt_of_le}
+use Rattle.std.proofs.Common.{◌≡◌, ℕ, zero, suc, ◌<◌, ◌≤◌, Bool, true, false, not, List, [], ◌∷◌, arith, zero-le, eq-or-lt_of_le}
 use Rattle.register_core.proofs.Common.{RowWrite, bits_with, clearing, unary_phrase}
 use Rattle.register_core.proofs.Rows.{other_bit, same_bit}
 

@@ -1,5 +1,5 @@
 -- A word read that no word write of its cell overlaps gives the item last written.
-use Rattle.std.proofs.Common.{◌≡◌, ℕ, zero, suc, ◌+◌, ◌-◌, ◌*◌, ◌/◌, ◌^◌, ◌<◌, ◌≤◌, All, Bool, false, List, length, take, Some, slice_get, slice_index_or, refl, sym, ap, subst, arith, ◌∙◌, ◌⊎◌, inl, inr, length-append, take_all, suc-mul, mul-le-mul_right, le_of_mul-le-mul_right, div-mul-le_self, mod-lt, div-add-mod'}
+use Rattle.std.proofs.Common.{◌≡◌, ℕ, zero, suc, ◌+◌, ◌-◌, ◌*◌, ◌/◌, ◌^◌, ◌<◌, ◌≤◌, All, Bool, false, List, length, take, Some, slice_get, slice_index_or, refl, sym, ap, subst, arith, ◌∙◌, ◌⊎◌, inl, inr, length-append, take_all, suc-mul, mul-le-mul_right, le_of_mul-le-mul_right, mod-lt, div-add-mod'}
 use Rattle.register_core.proofs.Common.{cases_lt, take-append-le, P, C, Cell, ReadEnd, Event, Shape, begun_by, before_last, IsLawful, bits_after, digit, word_writes, held_is_by_interval}
 use Rattle.std.proofs.lemmas.Option.{same_Some, slice_get_within, slice_get-get_or}
 use Rattle.bits_core.specs.declared.events.Access.TheVariants.{Write}

@@ -1,7 +1,7 @@
 -- One more line after lines, and bytes that are not a line after them.
-use Rattle.std.proofs.Common.{◌≡◌, ◌≢◌, ℕ, suc, ◌+◌, Option, Some, None, Result, Ok, Err, OnOk, IfErr, List, [], ◌∷◌, ◌++◌, length, get_or, drop, refl, ap, sym, subst, ◌∙◌, length-append, arith}
+use Rattle.std.proofs.Common.{◌≡◌, ◌≢◌, ℕ, ◌+◌, Some, None, Result, Ok, Err, OnOk, IfErr, List, [], ◌∷◌, ◌++◌, length, refl, sym, subst, ◌∙◌, length-append, arith}
 use Rattle.std.specs.Prelude.{All}
-use Rattle.std.specs.List.{cons_option, filter_map}
+use Rattle.std.specs.List.{filter_map}
 use Rattle.std.proofs.lemmas.List.Elements.{All-head, All-push, All-tail, filter_map-append}
 use Rattle.std.proofs.lemmas.Option.{none-some, same_Some}
 use Rattle.register_calls.specs.declared.auditors.ReaderState.{ReaderState}
@@ -9,7 +9,7 @@ use Rattle.register_calls.specs.declared.events.Register.{Register}
 use Rattle.register_calls.specs.declared.events.RegisterEvent.{RegisterEvent}
 use Rattle.register_calls.specs.declared.chains.Chain.{Chain}
 use Rattle.register_calls.specs.Witnesses.{RemembersRegister}
-use Rattle.register_calls.specs.Histories.{IsValue, WritesValue}
+use Rattle.register_calls.specs.Histories.{WritesValue}
 use Rattle.register_lines.specs.Lines.{AllowsNumbers, IsRegisterLine}
 use Rattle.register_lines.specs.declared.lines.RegisterLine.{RegisterLine}
 use Rattle.register_lines.proofs.LineLemmas.{line_same}

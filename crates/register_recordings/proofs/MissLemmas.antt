@@ -1,5 +1,5 @@
 -- The first reads at which a history lacks its classes, after one more event.
-use Rattle.std.proofs.Common.{rules, ◌≡◌, ℕ, ◌+◌, Option, None, List, [], ◌∷◌, ◌++◌, length, reverse, sym, subst, append_assoc, length-append, arith}
+use Rattle.std.proofs.Common.{rules, ◌≡◌, ℕ, ◌+◌, Option, None, List, [], ◌∷◌, ◌++◌, length, reverse, append_assoc, length-append, arith}
 use Rattle.std.proofs.lemmas.List.{reverse-append, take-append-le, take_all, take_at}
 use Rattle.register_calls.specs.declared.events.Class.{Class}
 use Rattle.register_calls.specs.declared.events.Class.TheVariants.{Safe, Regular, AtomicByReader, Atomic}

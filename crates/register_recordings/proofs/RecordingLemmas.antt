@@ -1,6 +1,5 @@
 -- The text of a recording of a register, line by line: where a line ends, what its end shows, and that its lines are one list of lines.
-use Rattle.std.proofs.Common.{◌≡◌, ◌≢◌, Bool, ℕ, ◌+◌, ◌-◌, ◌^◌, ◌<◌, ◌≤◌, List, [], ◌∷◌, ◌++◌, length, get_or, drop, refl, ap, sym, subst, ◌∙◌, append_assoc, length-append, arith}
-use Rattle.std.specs.List.{filter_map}
+use Rattle.std.proofs.Common.{◌≡◌, ◌≢◌, Bool, ℕ, ◌+◌, ◌-◌, ◌^◌, ◌<◌, ◌≤◌, List, [], ◌∷◌, ◌++◌, length, get_or, drop, refl, ap, sym, ◌∙◌, append_assoc, length-append, arith}
 use Rattle.std.proofs.lemmas.Grind.{flat_map-append}
 use Rattle.std.proofs.lemmas.List.{append-nil}
 use Rattle.std.proofs.lemmas.List.Elements.{All-append, All-head, All-nil, All-tail}
@@ -18,7 +17,7 @@ use Rattle.register_recordings.specs.declared.faults.RegisterTextFault.TheVarian
 use Rattle.register_recordings.specs.declared.findings.RegisterFinding.{RegisterFinding}
 use Rattle.register_recordings.specs.declared.recordings.JudgedLines.{JudgedLines}
 use Rattle.register_recordings.specs.declared.recordings.RegisterRecording.{RegisterRecording}
-use Rattle.register_recordings.specs.Recordings.{recorded_event, lacks_operations, register_line_bytes, register_text, AreRegisterLines, IsBadRegisterLine, IsRegisterFinding, IsRegisterFound, IsRegisterRecording, RefusesRegisterText}
+use Rattle.register_recordings.specs.Recordings.{lacks_operations, register_line_bytes, register_text, AreRegisterLines, IsBadRegisterLine, IsRegisterFinding, IsRegisterFound, IsRegisterRecording, RefusesRegisterText}
 use Rattle.register_recordings.specs.Reading.{ContinuesRegister, HasJudged, HasReadEvents, HasReadRegister, RefusesRegisterLine}
 use Rattle.register_recordings.proofs.FurtherLines.{last_allowed}
 

@@ -2,7 +2,6 @@
 use Rattle.std.proofs.Common.{◌≡◌, Bool, Some, List, [], ◌∷◌, ◌++◌, refl, sym, ap, ◌∙◌, arith}
 use Rattle.ring_audit.proofs.Common.{Side, Bit, Access, Event}
 use Rattle.bits_core.specs.declared.events.Act.{Act}
-use Rattle.bits_core.specs.declared.events.Access.TheVariants as begins
 use Rattle.bits_core.specs.Bits.{begun_access, begun_by}
 use Rattle.bits_core.specs.Made.{Made, Read, Write, access_of, answered, begin_event, end_event, events_of, IsPrefix, opening_event}
 pub use Rattle.bits_core.proofs.MadeLemmas.{begin_begins as begun_is, end_begins_none as ended_is}

@@ -6,7 +6,7 @@ use Rattle.ring_audit.proofs.Common.{P, C, Event, Shape, IsLawful, Side, subhist
 use Rattle.bits_core.specs.declared.faults.Kind.{Kind}
 use Rattle.bits_core.specs.declared.faults.Kind.TheVariants.{NotProgram}
 use Rattle.bits_core.specs.Audit.{IsFirstFault}
-use Rattle.ring_audit.specs.Audit.{IsOfPrograms, IsFound, IsKindAt, IsFirstBreak, Statement, Lawful, Fault, IsFinding, tells_lawful}
+use Rattle.ring_audit.specs.Audit.{IsOfPrograms, IsFound, IsFirstBreak, Statement, Lawful, Fault, IsFinding, tells_lawful}
 use Rattle.bits_core.proofs.LawLemmas.{beginning_is_lawful, fault_breaks}
 use Rattle.bits_core.proofs.OwnEvents.{subhistory-append}
 

@@ -4,7 +4,7 @@ use Rattle.std.proofs.lemmas.Bool.{le-ltb, lt-ltb}
 use Rattle.std.proofs.lemmas.List.{map-append, length-map}
 use Rattle.std.proofs.lemmas.Nat.{pow_pos}
 use Rattle.ring_audit.proofs.Common.{P, S, X, Cell, Access, Event, Shape, Made, Read, Write, access_of, end_event, events_of, IsPrefix, opening_event, RowWrite, row_bit, writes_in, digit_writes}
-use Rattle.ring_audit.proofs.Common.{due_writes, zero_reads, scan_phrase, row_read_by, due_scan, count_behind, open_events, events_of-append, length-events, scan_due, phrases-push, are-push}
+use Rattle.ring_audit.proofs.Common.{due_writes, zero_reads, scan_phrase, row_read_by, count_behind, open_events, events_of-append, length-events, scan_due, phrases-push, are-push}
 use Rattle.bits_core.specs.declared.events.Access.TheVariants as begins
 use Rattle.bits_core.specs.Shape.{AllFit, capacity_of, modulus_of, width_of}
 use Rattle.register_core.specs.WordState.{ReaderStands, BeginsRead, IsNextRead, due_read}

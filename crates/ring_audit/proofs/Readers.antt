@@ -1,9 +1,9 @@
 -- A reader of one side has read the events of accesses that were made, and the start of the one that is open: one more event.
 use Rattle.std.proofs.Common.{◌≡◌, suc, ◌*◌, ◌≤◌, Bool, Option, Some, None, List, [], ◌∷◌, ◌++◌, length, sym, ap, subst, ◌∙◌, arith, append_assoc, append-nil, length-append}
-use Rattle.ring_audit.proofs.Common.{Side, Access, Event, begun_by, Made, access_of, answered, end_event, events_of, IsPrefix, opening_event, events_of-append, length-events}
+use Rattle.ring_audit.proofs.Common.{Side, Access, Event, begun_by, Made, answered, end_event, events_of, IsPrefix, opening_event, events_of-append, length-events}
 use Rattle.ring_audit.specs.Sides.{open_events, EndsSo}
 use Rattle.ring_core.proofs.Machines.GoingOn.{access_back}
-use Rattle.ring_audit.proofs.Beginnings.{begin_is, answer_is, same_access, GoesOnWith, next_begins, GoesOnBy, next_ends}
+use Rattle.ring_audit.proofs.Beginnings.{begin_is, answer_is, GoesOnWith, next_begins, GoesOnBy, next_ends}
 
 -- ---- what was read
 

@@ -1,6 +1,6 @@
 -- The cases in which there are too few slots.
 pub use Rattle.lists.proofs.Results.{on_err}
-use Rattle.std.proofs.Common.{◌≡◌, inr, ℕ, ◌+◌, ◌<◌, ◌≤◌, Bool, List, [], ◌∷◌, ◌++◌, length, take, get_or, refl, sym, ap, subst, ◌∙◌, arith, length-append}
+use Rattle.std.proofs.Common.{◌≡◌, inr, ℕ, ◌+◌, ◌<◌, ◌≤◌, Bool, List, [], ◌∷◌, ◌++◌, length, take, get_or, refl, sym, ap, subst, arith, length-append}
 use Rattle.std.proofs.lemmas.List.{take_more, take-take, take_at, length-take-le}
 use Rattle.ring_audit.proofs.Common.{Event, Shape, Side, P, C, IsLawful, Put, Made, subhistory, PutReading, PutsStand, HasReadPut, MadeWhile, TakeReading, HasReadTake}
 use Rattle.bits_core.specs.Shape.{batch_of}

@@ -2,7 +2,7 @@
 use Rattle.std.proofs.Common.{◌≡◌, ℕ, Bool, List, length, sym, ap, subst, ◌∙◌, arith}
 use Rattle.ring_audit.proofs.Common.{P, C, Event, Shape, first_count}
 use Rattle.bits_core.specs.Made.{clock, IsPrefix}
-use Rattle.ring_core.specs.Items.{items_put, items_taken, IsTold}
+use Rattle.ring_core.specs.Items.{items_put, items_taken}
 use Rattle.ring_core.specs.Linear.{IsLinearizableRun}
 use Rattle.ring_core.specs.RingLaw.{InEveryRun, RingLaw}
 use Rattle.ring_core.specs.RunLaws.{ClosedStays}

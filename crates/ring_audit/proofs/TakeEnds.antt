@@ -4,9 +4,9 @@ use Rattle.ring_audit.proofs.Common.{C, Access, Event, Shape, capacity_of, width
 use Rattle.ring_audit.proofs.Common.{due_take, is_taking, open_events, events_of-append, length-events}
 use Rattle.ring_core.specs.declared.replies.TakeReply.TheVariants as replies
 use Rattle.register_core.specs.Word.{word_read}
-use Rattle.ring_core.specs.Takes.{Take, Item, ItemAfterClose, Empty, Takes, End, count_after, words_read, items_phrase, take_phrase, take_phrases, end_phrase, take_program, AreTakes}
+use Rattle.ring_core.specs.Takes.{Take, Item, ItemAfterClose, Empty, Takes, count_after, words_read, take_phrase, take_phrases, end_phrase, take_program, AreTakes}
 use Rattle.ring_core.specs.Items.{taken_of, all_taken, events_in, items_taken, IsTold}
-use Rattle.ring_core.specs.ConsumerCalls.{ConsumerStands, HasTakeMore, TakeGoesOn, IsReplyToTake, items_reply, last_take_reply, reply_at_end}
+use Rattle.ring_core.specs.ConsumerCalls.{ConsumerStands, HasTakeMore, TakeGoesOn, IsReplyToTake, items_reply, last_take_reply}
 use Rattle.ring_audit.specs.TakeReading.{TakeReading, IsTakeReading, TakesStand, WereTaken, tells_closed}
 use Rattle.register_core.proofs.Digits.{length-reads}
 use Rattle.ring_core.proofs.Readings.Over.{over-under_way, taken-over, taken_all}

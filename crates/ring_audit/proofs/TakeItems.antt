@@ -2,7 +2,7 @@
 use Rattle.std.proofs.Common.{◌≡◌, inl, inr, ℕ, Bool, true, false, Option, Some, None, List, [], ◌++◌, sym, ap, ap₂, ◌∙◌, append-nil, arith}
 use Rattle.ring_audit.proofs.Common.{Shape, TakeReply}
 use Rattle.ring_core.specs.Takes.{Take, Takes}
-use Rattle.ring_core.specs.ConsumerCalls.{take_reply_to, reply_at_end, items_at_end, IsReplyToTake, AreItemsOfTake, IsAfterTake, items_reply}
+use Rattle.ring_core.specs.ConsumerCalls.{take_reply_to, reply_at_end, items_at_end, IsReplyToTake, AreItemsOfTake, IsAfterTake}
 use Rattle.ring_core.specs.Items.{taken_of, all_taken}
 use Rattle.ring_audit.specs.TakeReading.{brought, step_by}
 use Rattle.ring_core.proofs.Machines.TakeCalls.{reply-push, items-push, all_taken-push}

@@ -2,9 +2,8 @@
 use Rattle.std.proofs.Common.{◌≡◌, ℕ, Bool, true, Option, Some, None, List, [], ◌∷◌, ◌++◌, append-nil, arith}
 use Rattle.ring_audit.proofs.Common.{C, Access, Event, Shape, Made, answered, end_event, TakeReply, Takes, ConsumerState, due_take, is_taking}
 use Rattle.ring_core.specs.declared.consumers.Stage.TheVariants.{Counting}
-use Rattle.ring_core.specs.declared.replies.TakeReply.TheVariants as replies
 use Rattle.ring_core.specs.ConsumerCalls.{ConsumerStands, ConsumerHasMoved, IsReplyToTake}
-use Rattle.ring_audit.specs.TakeReading.{TakeReading, TakesStand, WantsAll, HasReadTake, step_by}
+use Rattle.ring_audit.specs.TakeReading.{TakeReading, TakesStand, HasReadTake, step_by}
 use Rattle.ring_audit.proofs.Readers.{ended}
 use Rattle.ring_audit.proofs.TakeItems.{replied, items-after}
 use Rattle.ring_audit.proofs.TakeReads.{due_takes, last_same, count_writes_bits}

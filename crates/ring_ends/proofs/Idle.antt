@@ -1,10 +1,9 @@
 -- Ends between calls.
 use Rattle.std.proofs.Common.{arith, ◌≡◌, Bool, false, Option, Some, None, List, [], ◌∷◌, ap, ◌∙◌}
-use Rattle.ring_ends.proofs.Common.{Event, open_access, TakeReply, Take, AreTakes, ProducerState, call_of, ConsumerState, is_taking, RingEnd, IsMachine, Machine, consuming, producing, MachineLaws}
+use Rattle.ring_ends.proofs.Common.{Event, open_access, TakeReply, Take, ProducerState, call_of, ConsumerState, is_taking, RingEnd, IsMachine, Machine, consuming, producing, MachineLaws}
 use Rattle.ring_ends.proofs.Common.{made_leave_none_open}
-use Rattle.ring_core.specs.Takes as takes
 use Rattle.ring_core.specs.ProducerCalls.{closes_with}
-use Rattle.ring_core.specs.ConsumerCalls.{take_reply_to, last_take_reply, reply_at_end, ends_closed, IsReplyToTake}
+use Rattle.ring_core.specs.ConsumerCalls.{take_reply_to, last_take_reply, IsReplyToTake}
 use Rattle.ring_seats.specs.Rule.{IsIdle}
 use Rattle.ring_ends.specs.Meetings.{closed_reply, ClosesAre, TellsAre}
 use Rattle.ring_ends.proofs.MachineCalls.{rest_list}

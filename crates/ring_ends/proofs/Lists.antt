@@ -3,7 +3,7 @@ use Rattle.std.proofs.Common.{◌≡◌, ℕ, suc, Bool, false, Some, List, [], 
 use Rattle.ring_ends.proofs.Common.{length-append, Side, P, C, Access, Event, Shape, modulus_of, open_access, EndsInZeros, Follows, begin_of, ending_event}
 use Rattle.bits_core.specs.Bits.{other, begun_by}
 use Rattle.bits_core.specs.Lawful.{IsLawful}
-use Rattle.bits_core.specs.Made.{Made, Read, answered, begin_event, events_of, subhistory, IsPrefix}
+use Rattle.bits_core.specs.Made.{Made, Read, answered, events_of, subhistory, IsPrefix}
 use Rattle.register_core.specs.ScanState.{zero_reads, row_read_by}
 use Rattle.bits_core.proofs.LawLemmas.{open_changes}
 use Rattle.ring_core.proofs.LawLemmas.{last_bit_is_one_puts, last_bit_is_one_takes}

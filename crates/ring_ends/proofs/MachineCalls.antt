@@ -1,5 +1,5 @@
 -- A step call of an end, by its machine, whichever side it is of.
-use Rattle.std.proofs.Common.{◌≡◌, ◌⊎◌, ⊎_elim, ℕ, ◌+◌, ◌-◌, ◌*◌, ◌≤◌, Bool, List, [], ◌∷◌, ◌++◌, length, ap, sym, subst, ◌∙◌, arith}
+use Rattle.std.proofs.Common.{◌≡◌, ◌⊎◌, ⊎_elim, ℕ, ◌+◌, ◌*◌, ◌≤◌, Bool, List, length, ap, sym, subst, ◌∙◌, arith}
 use Rattle.std.proofs.lemmas.List.{length-append, length-take-le, take-append-le, take_all}
 use Rattle.ring_ends.proofs.Common.{Event, Shape, Made, events_of, Ring, RingEnd, Grows, IsSameEnd, StandsAs, MachineLaws}
 use Rattle.ring_ends.specs.Machines.{IsMarked, Machine, MachineAt, MachineStep, MachineStepped, IsMachine, CallBegins, without_last}

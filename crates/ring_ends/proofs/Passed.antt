@@ -1,9 +1,9 @@
 -- What came through a ring whose two ends are done.
-use Rattle.std.proofs.Common.{◌≡◌, ℕ, ◌≤◌, Bool, true, List, length, ap, sym, subst, ◌∙◌, arith, append-nil}
-use Rattle.ring_ends.proofs.Common.{Shape, P, C, Event, Takes, take_program, ends_closed, Ring, RingEnd}
+use Rattle.std.proofs.Common.{◌≡◌, ℕ, Bool, List, length, ap, sym, subst, ◌∙◌, arith, append-nil}
+use Rattle.ring_ends.proofs.Common.{Shape, P, C, Event, Ring, RingEnd}
 use Rattle.bits_core.specs.Made.{clock, IsPrefix}
 use Rattle.ring_core.specs.Counts.{first_count}
-use Rattle.ring_core.specs.Items.{items_put, items_taken, events_in, IsTold}
+use Rattle.ring_core.specs.Items.{items_put, items_taken, IsTold}
 use Rattle.ring_core.specs.RingLaw.{IsRun}
 use Rattle.ring_core.proofs.LawLemmas.{ring_law_closed, ring_law_prefix, takes_are_read, whole_calls_count_puts, whole_calls_count_takes}
 use Rattle.ring_core.proofs.Machines.Following.{length-events}

@@ -1,7 +1,6 @@
 -- The list of an end together with the accesses of its machine.
-use Rattle.std.proofs.Common.{arith, ◌≡◌, ◌⊎◌, ℕ, Bool, true, false, Option, Some, None, List, [], ◌∷◌, ◌++◌, ap}
-use Rattle.ring_ends.proofs.Common.{Side, Access, Event, Shape, open_access, Made, Read, answered, events_of, row_read_by, made_leave_none_open}
-use Rattle.bits_core.specs.declared.events.Access.TheVariants as access
+use Rattle.std.proofs.Common.{arith, ◌≡◌, ◌⊎◌, Bool, true, false, Option, Some, None, List, [], ◌∷◌, ◌++◌}
+use Rattle.ring_ends.proofs.Common.{Side, Access, Event, Shape, open_access, Made, events_of}
 use Rattle.bits_core.specs.Bits.{other, is_by}
 use Rattle.ring_seats.specs.Programs.{Follows, GoesOn, begin_of, ending_event}
 use Rattle.ring_ends.specs.Machines.{ListIs}

@@ -10,7 +10,7 @@ use Rattle.ring_core.specs.Items.{taken_of}
 use Rattle.ring_core.specs.Takes.{AreTakes, End, Open, Take, Takes}
 use Rattle.ring_core.specs.ConsumerCalls.{AreItemsOfTake, ConsumerStands, HasTakeMore, IsReplyToTake, ends_closed, items_at_end, last_items, last_take_reply, reply_at_end, take_batch_reply, take_reply_to}
 use Rattle.ring_ends.specs.CounterEnds.{TakeAllKept, TakeMade}
-use Rattle.ring_ends.specs.Ends.{HasTakePart, HasTakenAll, HasTakes, TakeAllAdds, number_brought, whole_take}
+use Rattle.ring_ends.specs.Ends.{HasTakePart, HasTakenAll, HasTakes, number_brought, whole_take}
 use Rattle.ring_ends.proofs.MachineCalls.{Goes, Outcome, Over, Refused, Step, out, shape_there, whole_there}
 use Rattle.ring_ends.proofs.MachineWhole as whole
 use Rattle.ring_ends.proofs.MachineWhole.{Ended, Whole, ending, list_there, more_there, over_list, shape_whole}

@@ -1,11 +1,11 @@
 -- What one event does to the functions that define a play.
 use Rattle.std.proofs.Common.{◌≡◌, inl, inr, ◌+◌, ◌*◌, ◌<◌, ◌≤◌, Bool, true, false, Option, Some, None, List, [], ◌∷◌, ◌++◌, length, refl, sym, ap, subst, ◌∙◌, append_assoc, append-nil, length-append, arith}
 use Rattle.std.specs.Prelude.{if◌then◌else◌, IfSome}
-use Rattle.ring_player.proofs.Common.{Side, Access, Event, Shape, so_far, IsMove, Content, events_of-append, length-events}
+use Rattle.ring_player.proofs.Common.{Side, Access, Event, Shape, so_far, Content, events_of-append, length-events}
 use Rattle.bits_core.specs.Bits.{is_by, other, same_side}
 use Rattle.bits_core.specs.Made.{IsPrefix, Made, answered, begin_event, end_event, events_of, subhistory, opening_event}
 use Rattle.bits_core.specs.Open.{IsOpenRight}
-use Rattle.ring_player.specs.Plays.{AreMoves, IsDone, IsDoneAfter, IsProgram, event_sides}
+use Rattle.ring_player.specs.Plays.{AreMoves, IsDone, IsProgram, event_sides}
 use Rattle.bits_core.proofs.Changes.{same_side-same}
 use Rattle.bits_core.proofs.MarkLemmas.{by_other as same_side-other}
 use Rattle.bits_core.proofs.LawLemmas.{subhistory_changes}

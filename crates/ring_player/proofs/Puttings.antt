@@ -1,6 +1,6 @@
 -- What the producer's actor does with its machine.
 use Rattle.std.proofs.Common.{◌≡◌, ℕ, zero, suc, ◌+◌, ◌*◌, ◌%◌, ◌<◌, ◌≤◌, Bool, true, false, cond, Option, Some, None, List, [], ◌∷◌, ◌++◌, length, take, drop, refl, sym, ap, subst, ◌∙◌, append-nil, length-append, arith}
-use Rattle.ring_player.proofs.Common.{P, Access, Shape, Made, answered, events_of, LastBitIsDue, first_count, fulls, AreAttempts, ArePutsOf, IsDoneAfter, IsProgram, offered, Content}
+use Rattle.ring_player.proofs.Common.{P, Access, Shape, Made, answered, events_of, LastBitIsDue, fulls, AreAttempts, ArePutsOf, IsDoneAfter, IsProgram, offered, Content}
 use Rattle.ring_player.proofs.Common.{events_of-append, past_is}
 use Rattle.bits_core.specs.Shape.{AllFit, batch_of, modulus_of, width_of}
 use Rattle.ring_core.specs.declared.replies.BatchReply.{BatchReply}

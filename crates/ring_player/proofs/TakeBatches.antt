@@ -1,5 +1,5 @@
 -- How many items a take of a play asks for.
-use Rattle.std.proofs.Common.{ℕ, ◌<◌, ◌≤◌, arith}
+use Rattle.std.proofs.Common.{ℕ, ◌<◌, arith}
 use Rattle.ring_player.proofs.Common.{wanted_at, Content}
 
 -- the world asks for at least one item if one is left, and no more than are left

@@ -1,11 +1,10 @@
 -- What takes took, and what they returned, one after the other.
-use Rattle.std.proofs.Common.{◌≡◌, ℕ, ◌+◌, ◌≤◌, Some, List, [], ◌∷◌, ◌++◌, length, refl, subst, length-append, arith, Option, None}
-use Rattle.ring_player.proofs.Common.{Shape, Count, first_count, empties, TakeBatchReply, past_is}
-use Rattle.ring_core.specs.ConsumerCalls.{count_taken, IsTakeOf, take_batch_reply, take_reply_to}
+use Rattle.std.proofs.Common.{◌≡◌, ℕ, ◌+◌, ◌≤◌, Some, List, [], ◌∷◌, ◌++◌, length, refl, length-append, arith, Option, None}
+use Rattle.ring_player.proofs.Common.{Shape, Count, empties, TakeBatchReply, past_is}
+use Rattle.ring_core.specs.ConsumerCalls.{take_batch_reply, take_reply_to}
 use Rattle.ring_core.specs.Items.{taken_of}
-use Rattle.ring_core.specs.Takes.{AreTakes, count_after, Empty, End, IsTake, Item, ItemAfterClose, Take, Takes, take_phrases, taken_after, taken_in}
+use Rattle.ring_core.specs.Takes.{AreTakes, count_after, Empty, End, IsTake, Item, ItemAfterClose, Take, take_phrases, taken_after, taken_in}
 use Rattle.ring_core.specs.declared.replies.TakeBatchReply.TheVariants as taken
-use Rattle.ring_core.proofs.OverSpans.CallSpans.{taken_number}
 pub use Rattle.ring_core.proofs.Machines.TakeCalls.{all_taken-push as all-more}
 pub use Rattle.ring_core.proofs.Readings.Over.{after_is, all_are}
 pub use Rattle.ring_core.proofs.Recorded.RecordedStates.{few_items as take_within}

@@ -3,7 +3,7 @@ use Rattle.std.proofs.Common.{◌≡◌, ℕ, suc, ◌+◌, ◌<◌, Bool, true,
 use Rattle.ring_player.proofs.Common.{◌↔◌, replicate, Made, IsPrefix, events_of, subhistory, Event, Side, P, C, first_count, all_taken, events_in, IsTold, ToldIn, FollowsTakes, Takes, take_phrases}
 use Rattle.ring_player.proofs.Common.{take_program, IsMove, PutTally, Plays, wanted_at, TakenItems, CallEvent, Content, length-events}
 use Rattle.std.proofs.lemmas.List.{map-append, replicate-append-replicate}
-use Rattle.bits_core.specs.Bits.{is_by, other}
+use Rattle.bits_core.specs.Bits.{is_by}
 use Rattle.queue_calls.specs.Calls as calls
 use Rattle.ring_core.specs.Over.{empties, fulls, puts_over, puts_over_in, takes_over, takes_over_in}
 use Rattle.ring_core.specs.Puts.{FollowsPuts, Puts, put_phrase, put_program, stored_after, stored_in}

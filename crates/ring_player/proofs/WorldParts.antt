@@ -1,12 +1,12 @@
 -- The world after a step of one side.
 use Rattle.std.proofs.Common.{◌≡◌, ◌⊎◌, inl, inr, ℕ, ◌+◌, ◌-◌, ◌<◌, ◌≤◌, zero, suc, get_or, min, Bool, true, Option, Some, None, Result, List, [], ◌∷◌, ◌++◌, length, take, drop, append_assoc, append-nil, refl, sym, ap, subst, ◌∙◌, arith}
-use Rattle.std.specs.Prelude.{if◌then◌else◌, IfOk, OnErr, OnOk, ◌↔◌, replicate, slice_index_or}
+use Rattle.std.specs.Prelude.{IfOk, OnErr, OnOk, ◌↔◌, replicate, slice_index_or}
 use Rattle.ring_player.proofs.Common.{Side, P, C, Access, Event, open_access, IsLawful, MemoryState, turn, IsAtTurn, IsMove, IsPlaying, PutTally, so_far, LetterRun, Content, first_count}
 use Rattle.ring_player.proofs.Common.{takes_over_in, FollowsTakes, Takes}
-use Rattle.bits_core.specs.Bits.{begun_by, other}
+use Rattle.bits_core.specs.Bits.{other}
 use Rattle.bits_core.proofs.LawLemmas.{open_changes}
 use Rattle.bits_core.specs.Made.{clock, IsPrefix, Made, subhistory}
-use Rattle.ring_player.specs.Plays.{AreMoves, IsDone, IsPlayed, IsProgram, Plays, event_sides}
+use Rattle.ring_player.specs.Plays.{IsDone, IsPlayed, IsProgram, Plays, event_sides}
 use Rattle.std.proofs.lemmas.Bool.{cases_lt}
 use Rattle.std.proofs.lemmas.List.{length-append, length-replicate, take_all, take_more, take-append-drop, take-append-le, take-replicate}
 use Rattle.std.proofs.Math.Seq.{take-append-add, take-length}

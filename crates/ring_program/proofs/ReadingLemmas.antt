@@ -54,16 +54,13 @@ same_text a b (Lawful report) is = cc
 same_text a b (OutOfTurn line) is = refl
 same_text a b (NotLinearizable line cause) is = refl
 
-pub never_done : (ending : Ending) → ending ≡ FaultFound → ending ≡ Done → ⊥
-never_done ending fault done = let clash : FaultFound ≡ Done = sym fault ∙ done in cc
-
 pub at_end : (stop : Bool) (bytes : List ℕ) (is_cut : Bool) (found : CallsFinding) → (stop ≡ true → IsFaultless bytes) → IsFoundIn bytes is_cut found → IsFoundBy stop bytes is_cut found
 at_end false bytes is_cut found faultless is = is
 at_end true bytes is_cut found faultless is = (bytes, [], sym (append-nil bytes), is, (λ over. refl), (λ fault. holding_ends HasNoFault bytes (faultless refl)))
 
 pub at_fault : (stop : Bool) (bytes : List ℕ) (found : CallsFinding) → stop ≡ true → IsFaultAhead bytes found → IsFoundBy stop bytes false found
 at_fault false bytes found is ahead = cc
-at_fault true bytes found is (front, rest, parts, (capacity, events, recording, is_found), ends, first) = grind (arith, same_text, never_done)
+at_fault true bytes found is (front, rest, parts, (capacity, events, recording, is_found), ends, first) = grind (arith, same_text)
 
 -- what follows from the bytes of an input, if they are known
 pub of_input : (input : Option (List ℕ)) (P Q : List ℕ → Type 0) → ((bytes : List ℕ) → P bytes → Q bytes) → IfSome input P → IfSome input Q

@@ -7,7 +7,6 @@ use Rattle.register_recordings.specs.declared.findings.RegisterFinding.{Register
 use Rattle.ring_program.specs.Readings.{EndsAtFirst, HoldsOfLines}
 use Rattle.ring_program.specs.Registers.{IsRegisterFoundBy, IsRegisterFoundIn, IsShortAhead, register_ending_of, short_ending_of}
 use Rattle.ring_program.proofs.FirstFaults.{holding_ends}
-use Rattle.ring_program.proofs.ReadingLemmas.{never_done}
 
 pub short_ahead :
     (class : Class) (bytes ended rest whole later : List ℕ) (is_cut : Bool) (found : RegisterFinding) → bytes ≡ ended ++ rest → bytes ++ later ≡ whole → IsRegisterFoundIn ended is_cut found →
@@ -23,4 +22,4 @@ register_at_end true class bytes is_cut found keeps is = (bytes, [], sym (append
 pub register_at_fault :
     (stop : Bool) (class : Class) (bytes : List ℕ) (is_cut : Bool) (found : RegisterFinding) → stop ≡ true → IsShortAhead class bytes is_cut found → IsRegisterFoundBy stop class bytes is_cut found
 register_at_fault false class bytes is_cut found is ahead = cc
-register_at_fault true class bytes is_cut found is (front, rest, parts, found_in, short, first) = grind (arith, never_done)
+register_at_fault true class bytes is_cut found is (front, rest, parts, found_in, short, first) = grind arith

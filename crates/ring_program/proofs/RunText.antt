@@ -88,10 +88,6 @@ writes_more is_cut capacity b next text after events event pushed next_is small 
       small = small_more events event w.small small;
     }
 
-room_less : (f : Event → ℕ) (events : List Event) (event : Event) (room left : ℕ) → room ≡ RECORDED - sum_by f events → left ≡ room - f event
-    → left ≡ RECORDED - sum_by f (events ++ event ∷ [])
-room_less f events event room left is now = omega (arith, sum_by_push f events event)
-
 pub leaves_less : (shape : Shape) (items : List ℕ) (all : RunCounts) (untold after : Untold) (room less : Room) (events : List Event) (event : Event)
     → IsOfRun shape untold.items.now event → TakesOff untold event after → less.puts ≡ room.puts - room_with P event → less.takes ≡ room.takes - room_with C event
     → IsLeft shape items all untold room events → IsLeft shape items all after less (events ++ event ∷ [])
@@ -100,8 +96,8 @@ leaves_less shape items all untold after room less events event is off puts take
   items_are = off.items ∙ ap (λ (xs : List ℕ). drop (stored_with event) xs) l.items_are ∙ drop-drop (stored_with event) (sum_by stored_with events) items
       ∙ ap (λ (n : ℕ). drop n items) (sym (sum_by_push stored_with events event));
   tells = tell_more (left_of after) (left_of untold) all events event l.tells off.tells;
-  puts = room_less (room_with P) events event room.puts less.puts l.puts puts;
-  takes = room_less (room_with C) events event room.takes less.takes l.takes takes;
+  puts = grind (arith, sum_by_push);
+  takes = grind (arith, sum_by_push);
 }
 
 pub audits_more : {Q E : Type 0} (items_of : Q → List ℕ) (capacity : ℕ) (auditor after : CallAuditor Q E) (events : List Event) (event : Event)
@@ -111,9 +107,6 @@ pub audits_more : {Q E : Type 0} (items_of : Q → List ℕ) (capacity : ℕ) (a
 audits_more {Q} items_of capacity auditor after events event same reads a = grind arith
 
 -- ---- at the start and at the end
-
-pub meant_exactly : (told : Capacity) (n capacity : ℕ) → told ≡ Between n n → n ≡ capacity → meant told ≡ exactly capacity
-meant_exactly told n capacity is same = ap meant is ∙ ap exactly same
 
 pub begins_run : {Q E : Type 0} (items_of : Q → List ℕ) (is_cut : Bool) (capacity : ℕ) (shape : Shape) (items : List ℕ) (all : RunCounts) (text before word : List ℕ) (n : ℕ) (auditor : CallAuditor Q E)
     (untold : Untold) → before ≡ [] → word ≡ word_text (first_word is_cut) → n ≡ capacity → text ≡ before ++ list_line word (n ∷ []) → Audits items_of auditor []

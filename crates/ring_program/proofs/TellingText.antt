@@ -26,10 +26,6 @@ IsToldSoFar capacity h rest b text =
     (lines_text (line Queue (capacity ∷ []) ∷ lines_of begun.Nothing h) ≡ text ++ lines_text (lines_of b rest))
     × (TellsSmall rest → TellsSmall h)
 
-pub telling_begins : (capacity n : ℕ) (h : List Event) (text before word : List ℕ) → before ≡ [] → word ≡ word_text Queue → n ≡ capacity
-    → text ≡ before ++ list_line word (n ∷ []) → IsToldSoFar capacity h h begun.Nothing text
-telling_begins capacity n h text before word none word_is same is = grind (arith, ap₂, line_is)
-
 pub telling_goes_on : (capacity : ℕ) (h : List Event) (event : Event) (rest : List Event) (b : Begun) (text : List ℕ) (next : Begun) (after : List ℕ)
     → after ≡ text ++ text_of (line_of b event) → next ≡ begun_after b (line_of b event).word (line_of b event).numbers
     → AreSmall (numbers_in event) → IsToldSoFar capacity h (event ∷ rest) b text → IsToldSoFar capacity h rest next after

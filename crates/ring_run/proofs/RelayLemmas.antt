@@ -1,5 +1,5 @@
 -- One more put or take of a relay.
-use Rattle.std.proofs.Common.{◌≡◌, ◌⊎◌, ⊎_elim, ℕ, zero, suc, ◌+◌, ◌-◌, ◌<◌, ◌≤◌, Bool, false, List, [], ◌∷◌, ◌++◌, length, take, ◌%◌, refl, ap, sym, subst, ◌∙◌, arith, Result, Ok, Err}
+use Rattle.std.proofs.Common.{◌≡◌, ◌⊎◌, ⊎_elim, ℕ, zero, suc, ◌+◌, ◌-◌, ◌<◌, ◌≤◌, false, List, [], ◌∷◌, ◌++◌, length, take, ◌%◌, refl, ap, sym, subst, ◌∙◌, arith, Result, Ok, Err}
 use Rattle.std.specs.Prelude.{IfErr}
 use Rattle.std.proofs.lemmas.List.{length-append, length-drop, length-take-le}
 use Rattle.std.proofs.Math.Seq.{take-add, take-length, drop-nil}
@@ -10,7 +10,6 @@ use Rattle.bits_core.specs.declared.events.Event.{Event}
 use Rattle.bits_core.proofs.Fitting.{AllFit-take, AllFit-drop}
 use Rattle.ring_core.specs.declared.replies.BatchReply as batch_replies
 use Rattle.ring_core.specs.declared.replies.BatchReply.TheVariants as batch_reply
-use Rattle.ring_core.specs.Counts.{first_count}
 use Rattle.ring_core.specs.Puts as puts
 use Rattle.ring_core.specs.Puts.{Put, Puts, IsBatch}
 use Rattle.ring_core.specs.Items.{all_put}

@@ -1,5 +1,5 @@
 -- One more take of a relay.
-use Rattle.std.proofs.Common.{◌≡◌, ◌≢◌, ⊎_elim, ℕ, ◌+◌, ◌-◌, ◌≤◌, Bool, true, false, Some, None, List, [], ◌∷◌, ◌++◌, length, take, refl, ap, sym, subst, ◌∙◌, arith, append-nil}
+use Rattle.std.proofs.Common.{◌≡◌, ◌≢◌, ⊎_elim, ℕ, ◌+◌, ◌-◌, ◌≤◌, true, false, Some, None, List, [], ◌∷◌, ◌++◌, length, take, refl, ap, sym, subst, ◌∙◌, arith, append-nil}
 use Rattle.std.specs.Prelude.{min}
 use Rattle.std.proofs.lemmas.List.{length-append}
 use Rattle.bits_core.specs.declared.shapes.Shape.{Shape}
@@ -13,7 +13,7 @@ use Rattle.ring_core.specs.Takes.{Take, Takes, Open, AreTakes, IsTake, taken_aft
 use Rattle.ring_core.specs.Items.{all_taken, taken_of}
 use Rattle.ring_core.specs.Over.{empties}
 use Rattle.ring_core.specs.Readings.{TakesAreRead}
-use Rattle.ring_core.specs.ConsumerCalls.{and_take, and_end, no_takes, ends_closed, IsTakeOf, items_at_end, reply_at_end, take_batch_reply, take_reply_to}
+use Rattle.ring_core.specs.ConsumerCalls.{and_take, no_takes, IsTakeOf, items_at_end, reply_at_end, take_batch_reply, take_reply_to}
 use Rattle.ring_ends.specs.Ends.{HasTakenAll, HasTakes, TakeAllAdds, number_brought}
 use Rattle.ring_run.specs.Relays.{AreAsked, EndsEmpty, TakesAre, used_by}
 use Rattle.ring_core.proofs.OverSpans.CallSpans.{taken_number as counted_is}

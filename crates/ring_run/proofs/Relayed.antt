@@ -1,5 +1,5 @@
 -- What the law of the ring implies about a relay.
-use Rattle.std.proofs.Common.{Bool, false, List, [], ap, append-nil, arith, eqb-true, length, subst, sym, take, true, ℕ, ◌+◌, ◌==◌, ◌∙◌, ◌≡◌, ◌≤◌}
+use Rattle.std.proofs.Common.{Bool, false, List, ap, append-nil, arith, eqb-true, length, subst, sym, take, true, ℕ, ◌+◌, ◌==◌, ◌∙◌, ◌≡◌, ◌≤◌}
 use Rattle.std.proofs.lemmas.List.{length-append, length-take-le}
 use Rattle.std.proofs.Math.Seq.{take-length}
 use Rattle.bits_core.specs.declared.shapes.Shape.{Shape}
@@ -9,9 +9,8 @@ use Rattle.bits_core.specs.Shape.{capacity_of}
 use Rattle.bits_core.specs.Made.{subhistory, clock, IsPrefix}
 use Rattle.ring_core.specs.Counts.{first_count}
 use Rattle.ring_core.specs.Puts.{Puts}
-use Rattle.ring_core.specs.Takes.{Takes, take_program}
-use Rattle.ring_core.specs.Items.{items_put, items_taken, events_in, IsTold}
-use Rattle.ring_core.specs.CallsAt.{puts_begun, takes_begun}
+use Rattle.ring_core.specs.Takes.{Takes}
+use Rattle.ring_core.specs.Items.{items_put, items_taken}
 use Rattle.ring_core.specs.Whole.{WholePutsCount, WholeTakesCount}
 use Rattle.ring_core.specs.RingLaw.{IsRun, InEveryRun, IsWithin, TakenArePrefix, ClosedIsTrue}
 use Rattle.ring_seats.specs.Ring.{Ring, RingEnd}

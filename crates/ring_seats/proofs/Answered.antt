@@ -4,7 +4,7 @@ use Rattle.ring_seats.proofs.Common.{if◌then◌else◌, Side, Bit, Act, ReadEn
 use Rattle.ring_seats.specs.declared.views.Loads.{Loads}
 use Rattle.ring_seats.proofs.Grown.{and_event, kept_loads}
 use Rattle.ring_seats.specs.Words.{agrees, answer_of}
-use Rattle.ring_seats.specs.Steppers.{AreAnswered, IsAskedOnce, and_answer, answers_by, answers_in, asks_of_all, asks_of}
+use Rattle.ring_seats.specs.Steppers.{AreAnswered, and_answer, answers_by, answers_in, asks_of_all, asks_of}
 use Rattle.ring_seats.proofs.Accesses.{end_at}
 use Rattle.ring_seats.proofs.Moves.{list_of-mine}
 

@@ -6,7 +6,7 @@ use Rattle.bits_core.specs.Bits.{other, writer, reader, same_side, same_bit, is_
 use Rattle.bits_core.specs.History.{before_last, open_access, open_write, held}
 use Rattle.bits_core.specs.Steps.{MayFollow, IsAnswer}
 use Rattle.ring_seats.specs.Words.{value_word, word_shown, shown, answer_of}
-use Rattle.bits_core.proofs.LawLemmas.{before_last_changes, held_changes, open_changes, open_write_changes, quiet_is_held, subhistory_changes}
+use Rattle.bits_core.proofs.LawLemmas.{held_changes, open_changes, open_write_changes, quiet_is_held, subhistory_changes}
 pub use Rattle.bits_core.proofs.Histories.{before_last-not as before_last-theirs}
 pub use Rattle.bits_core.proofs.IntervalLemmas.{same_bit-same}
 pub use Rattle.bits_core.proofs.OwnEvents.{by_case}

@@ -1,19 +1,18 @@
 -- The last writes of a row in a list of its writer's events, and what they result in.
-use Rattle.std.proofs.Common.{◌≡◌, ◌⊎◌, inl, inr, ℕ, zero, suc, ◌<◌, Bool, true, false, cond, nat_eq, Option, Some, None, List, [], ◌∷◌, ◌++◌, ◌==◌, refl, ap, sym, subst, ◌∙◌, arith, append_assoc, append-nil}
+use Rattle.std.proofs.Common.{◌≡◌, ◌⊎◌, inl, inr, ℕ, zero, suc, ◌<◌, Bool, true, false, cond, nat_eq, Some, None, List, [], ◌∷◌, ◌++◌, ◌==◌, refl, ap, sym, subst, ◌∙◌, arith, append_assoc, append-nil}
 use Rattle.ring_seats.proofs.Common.{if◌then◌else◌, unwrap_or, Shape, Side, P, Bit, Cell, Event, modulus_of, IsLawful, unary_phrase, digit, digit_writes, word_write, Count}
 use Rattle.std.specs.List.{cons_option}
 use Rattle.std.proofs.lemmas.Bool.Decides.{nat_tests}
 use Rattle.std.proofs.lemmas.List.{map-append}
 use Rattle.std.proofs.lemmas.List.Elements.{filter_map-append}
 use Rattle.std.proofs.Math.Nat.{mod-eq_of_lt}
-use Rattle.bits_core.specs.Bits.{writer, same_bit, first_value, write_of, value_written}
-use Rattle.bits_core.specs.History.{open_access, open_write, held, writes_begun, last_value}
+use Rattle.bits_core.specs.Bits.{writer, same_bit, write_of, value_written}
+use Rattle.bits_core.specs.History.{open_access, open_write, held, writes_begun}
 use Rattle.bits_core.specs.Made.{Made, Read, Write, events_of, subhistory}
 use Rattle.register_core.specs.Row.{RowWrite, row_bit, writes_in, bits_with, bits_after}
 use Rattle.ring_seats.specs.Counters.{value_left, unary_over, NoWriteOf, AreLast, IsLastCount, IsLastItem}
 use Rattle.ring_seats.proofs.Blocks.{wrote, after, after-append, last_append, left_by-made}
 use Rattle.bits_core.proofs.LawLemmas.{beginning_is_lawful, held_changes, open_write_changes, subhistory_changes}
-use Rattle.register_core.proofs.Items.{digit_of_zero as zero_digit}
 use Rattle.ring_core.proofs.Readings.Phrases.{at_or_below}
 use Rattle.ring_core.proofs.LawLemmas.{counts_are_written_numbers}
 

@@ -1,7 +1,7 @@
 -- Each step preserves the rule of the ring.
 use Rattle.std.proofs.Common.{arith, rules, ◌≡◌, ◌≢◌, ℕ, zero, suc, Bool, true, false, true≢false, ◌⊎◌, List, [], ◌∷◌, ◌++◌, length, get_or, set, slice_index, Some, None, sym, refl, ap, ◌∙◌, subst, inl, inr, ⊎_elim, append_assoc, append-nil, length-set, get_or-set_same, get_or-set_other}
-use Rattle.ring_seats.proofs.Common.{if◌then◌else◌, length-replicate, get_elem?, Shape, Side, P, C, Bit, Act, ReadBegin, ReadEnd, WriteBegin, WriteEnd, Access, Event, belongs, other, writer, reader}
-use Rattle.ring_seats.proofs.Common.{same_bit, open_access, IsLawful, MayFollow, subhistory, IsPrefix, View, Follows, IsRing, GoesOn}
+use Rattle.ring_seats.proofs.Common.{length-replicate, get_elem?, Shape, Side, P, C, Bit, Act, ReadBegin, ReadEnd, WriteBegin, WriteEnd, Access, Event, belongs, other, writer, reader}
+use Rattle.ring_seats.proofs.Common.{open_access, IsLawful, MayFollow, subhistory, IsPrefix, View, Follows, IsRing, GoesOn}
 use Rattle.std.proofs.lemmas.Bool.{cases_eq}
 use mathlib.Core.Option.{some, some-injective, some-ne-none}
 use Rattle.atomic_table.specs.Table.{Me, State, keeps, opening, Allows, Enters, Splits, Joins}

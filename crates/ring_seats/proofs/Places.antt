@@ -1,13 +1,12 @@
 -- Each bit of the shape has a word of its own.
 use Rattle.std.proofs.Common.{rules, ◌≡◌, ◌≢◌, ◌⊎◌, inl, inr, ℕ, suc, ◌+◌, ◌*◌, ◌<◌, ◌≤◌, Bool, true, false, true≢false, ◌&&◌, ◌==◌, [], set, refl, ap, sym, ◌∙◌, arith, eqb-true, eq-eqb, mul-le-mul_right, suc-mul, get_or-set_other, length-set}
-use Rattle.std.specs.Prelude.{nat_lt}
 use Rattle.std.proofs.lemmas.List.{get_or-replicate, length-replicate}
 use Rattle.std.proofs.lemmas.Grind.{get_or-set_at}
 use Rattle.std.proofs.lemmas.Bool.{and_parts, ltb-true}
 use native.Mathlib.Decide.{dec_lt}
-use Rattle.ring_seats.proofs.Common.{Bit, Shape, belongs, modulus_of, width_of, same_bit}
+use Rattle.ring_seats.proofs.Common.{Bit, Shape, belongs, modulus_of, same_bit}
 use Rattle.bits_core.specs.declared.events.Bit.TheVariants.{S, R, X, Cell}
-use Rattle.ring_seats.specs.Words.{word_place, word_count, cell_words, first_words, Shows}
+use Rattle.ring_seats.specs.Words.{word_place, word_count, first_words, Shows}
 
 -- a place in a row of cells belongs to one cell
 higher : (w j k i l : ℕ) → i < w → j < k → j * w + i < k * w + l

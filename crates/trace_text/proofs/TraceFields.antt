@@ -1,5 +1,5 @@
 -- The parts of a line: what is read is at the front, and what is there is read again.
-use Rattle.std.proofs.Common.{rules, ◌≡◌, ◌⊎◌, ℕ, ◌<◌, Bool, true, false, cond, Option, Some, None, List, [], ◌∷◌, ◌++◌, refl, ap, ◌∙◌, append_assoc, inl, inr, arith}
+use Rattle.std.proofs.Common.{rules, ◌≡◌, ◌⊎◌, ℕ, ◌<◌, true, false, cond, Option, Some, None, List, [], ◌∷◌, ◌++◌, refl, ap, ◌∙◌, append_assoc, inl, inr, arith}
 use Rattle.trace_text.proofs.Common.{codes, decimal, ◌==◌, Side, Bit, Act}
 use Rattle.std.proofs.lemmas.Bool.{eqb-true, ltb-true}
 use Rattle.std.proofs.lemmas.Bool.Decides.{nat_tests}
@@ -8,8 +8,8 @@ use Rattle.bits_core.specs.declared.events.Bit.TheVariants.{S, R, X, Cell}
 use Rattle.bits_core.specs.declared.events.Act.TheVariants.{ReadBegin, ReadEnd, WriteBegin, WriteEnd}
 use Rattle.trace_text.specs.declared.reading.ActWord.{ActWord}
 use Rattle.trace_text.specs.declared.reading.ActWord.TheVariants.{Read, Got, Write, Wrote}
-use Rattle.trace_text.specs.TraceText.{side_text, act_text, bit_text, digit_text, value_text}
-use Rattle.trace_text.specs.TraceReading.{◌>>=◌, or_else, named, side_at, word_at, digit_at, short_number_at, index_at, cell_at, bit_at, act_at}
+use Rattle.trace_text.specs.TraceText.{side_text, act_text, bit_text, value_text}
+use Rattle.trace_text.specs.TraceReading.{◌>>=◌, or_else, named, side_at, word_at, short_number_at, index_at, cell_at, bit_at, act_at}
 use Rattle.line_parts.proofs.TextReading.{after-text}
 use Rattle.line_parts.proofs.NumberReading.{EndsDigits, number_at-text, number_at-again}
 

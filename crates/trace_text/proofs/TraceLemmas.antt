@@ -1,11 +1,11 @@
 -- Traces: what is at the front, one more event, and the one reading of a text.
 use Rattle.std.proofs.Common.{◌≡◌, ℕ, ◌+◌, ◌<◌, true, false, Some, None, List, [], ◌∷◌, ◌++◌, length, ap, sym, ◌∙◌, append_assoc, arith}
-use Rattle.trace_text.proofs.Common.{◌==◌, none-some, same_Some, Event, Shape, AreOfShape, belongs, event_line, trace_text}
+use Rattle.trace_text.proofs.Common.{none-some, same_Some, Event, Shape, AreOfShape, belongs, event_line, trace_text}
 use Rattle.std.proofs.lemmas.Bool.{false≢true}
 use Rattle.std.proofs.lemmas.List.{flat_map_more, length-append}
 use Rattle.std.proofs.lemmas.List.Elements.{All-push}
 use Rattle.trace_text.specs.TraceReading.{event_at, shape_at}
-use Rattle.trace_text.specs.Trace.{BeginsWithEvent, IsTraceAndMore, HasNoEvent, HasShapeLine}
+use Rattle.trace_text.specs.Trace.{BeginsWithEvent, HasNoEvent, HasShapeLine}
 use Rattle.trace_text.proofs.TraceLines.{event_at-again, small_indices, shape_at-again}
 
 -- the line of an event at the front is read

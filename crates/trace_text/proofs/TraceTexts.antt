@@ -1,7 +1,7 @@
 -- The text of a trace of any length, line by line: what its end shows, and what is refused.
 use Rattle.std.proofs.Common.{◌≡◌, ◌≢◌, ℕ, ◌+◌, ◌-◌, ◌^◌, ◌<◌, ◌≤◌, true, Option, Some, None, List, [], ◌∷◌, ◌++◌, length, refl, ap, sym, subst, ◌∙◌, append_assoc, length-append, inl, inr, arith}
 use Rattle.std.specs.List.{flat_map}
-use Rattle.std.specs.Prelude.{codes, MatchOption}
+use Rattle.std.specs.Prelude.{MatchOption}
 use Rattle.std.proofs.lemmas.List.{append-nil, flat_map_more}
 use Rattle.std.proofs.lemmas.List.Elements.{All-append, All-nil}
 use Rattle.trace_text.proofs.Common.{none-some, same_Some, Event, Shape, ShapeFault, TraceHearing, TraceFault, batch_of, belongs, capacity_of, modulus_of, take_batch_of, width_of, HasBadShape}

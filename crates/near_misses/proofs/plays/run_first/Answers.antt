@@ -1,6 +1,5 @@
-use Rattle.std.proofs.Common.{◌∙◌, ℕ, inl, inr, List, length, take, refl, sym, ap, subst, arith}
+use Rattle.std.proofs.Common.{◌∙◌, ℕ, List, take, sym, subst, arith}
 use Rattle.bits_core.specs.declared.events.Side.{Side}
-use Rattle.ring_script.specs.declared.schedules.LetterRun.{LetterRun}
 use Rattle.ring_script.specs.Schedule.{spelled}
 use Rattle.ring_player.proofs.WorldParts.{all_runs, on_err, one_run_more, spelled-none, take-none, within_all}
 use Rattle.near_misses.specs.NearSides.{NearHas}

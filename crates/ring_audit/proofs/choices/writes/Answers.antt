@@ -1,4 +1,4 @@
-use Rattle.std.proofs.Common.{◌≡◌, ◌≢◌, true, false, Some, refl, sym, ap, ◌∙◌}
+use Rattle.std.proofs.Common.{◌≡◌, ◌≢◌, true, false, Some, refl, ap, ◌∙◌}
 use Rattle.ring_audit.proofs.Common.{P, opening_event, Dues}
 use Rattle.bits_core.specs.declared.events.Access.TheVariants as begins
 use Rattle.ring_audit.proofs.DueLemmas.{digits_in_order}

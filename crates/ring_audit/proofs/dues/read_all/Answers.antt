@@ -1,5 +1,4 @@
-use Rattle.std.proofs.Common.{◌≡◌, ◌∙◌, ◌+◌, List, length, take, ap, subst, sym, arith}
-use Rattle.std.proofs.Math.Seq.{take-length}
+use Rattle.std.proofs.Common.{List, take, subst, sym, arith}
 use Rattle.ring_audit.proofs.Common.{take_more, Event, BothStand}
 use Rattle.ring_audit.proofs.DueLemmas.{stops_here}
 use Rattle.ring_audit.proofs.dues.read_all.Goals as goal

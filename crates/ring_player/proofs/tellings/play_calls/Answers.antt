@@ -1,5 +1,5 @@
-use Rattle.std.proofs.Common.{◌≡◌, ℕ, ◌+◌, List, length, ◌++◌, [], take, sym, ap, subst, ◌∙◌, arith}
-use Rattle.ring_player.proofs.Common.{replicate, slice_index_or, take_all, Event, Side, P, LetterRun, Content, Plays, event_sides, AreAt, TellsCalls, call_events, CallEvent, TakenItems}
+use Rattle.std.proofs.Common.{◌≡◌, ℕ, ◌+◌, List, length, ◌++◌, take, sym, ap, subst, ◌∙◌, arith}
+use Rattle.ring_player.proofs.Common.{replicate, slice_index_or, take_all, Side, P, LetterRun, Content, Plays, event_sides, AreAt}
 use Rattle.ring_script.specs.Schedule.{spelled}
 use Rattle.ring_player.specs.declared.tellings.PutStage.TheVariants as put
 use Rattle.ring_player.specs.declared.tellings.TakeStage.TheVariants as taking

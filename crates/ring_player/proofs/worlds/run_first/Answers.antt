@@ -1,5 +1,5 @@
 use Rattle.std.proofs.Common.{ℕ, List, length, ◌++◌, [], take, refl, sym, ap, subst, ◌∙◌, arith}
-use Rattle.ring_player.proofs.Common.{replicate, slice_index_or, Event, Side, LetterRun, content_of, Content, Plays, event_sides}
+use Rattle.ring_player.proofs.Common.{replicate, slice_index_or, Event, Side, LetterRun, content_of, Content, Plays}
 use Rattle.ring_script.specs.Schedule.{spelled}
 use Rattle.ring_player.proofs.WorldParts.{all_runs, no_run, one_run_more, spelled-none, take-none, on_err, within_all}
 use Rattle.ring_player.proofs.worlds.run_first.Goals as goal

@@ -80,9 +80,6 @@ asked_so : (found : Option Request) (r : Request) (input before after : Option (
     → Ends r input before after Tells status → IfSome found (λ q. Ends q input before after Tells status)
 asked_so found r input before after Tells status same ends = subst (λ q. IfSome q (λ asked. Ends asked input before after Tells status)) same ends
 
-status_so : (found : Option Request) (r : Request) (status : ℕ) → Some r ≡ found → IsStatus (Some r) status → IsStatus found status
-status_so found r status same is = subst (λ q. IsStatus q status) same is
-
 where_none : (request : Option Request) (P : Type 0) → P → IfNone request P
 where_none None P h = h
 where_none (Some r) P h = tt
@@ -101,7 +98,7 @@ pub returns-in-Ok-Some-clause-asked : goal.returns-in-Ok-Some-clause-asked
 returns-in-Ok-Some-clause-asked g c = grind (arith, asked_so, c.in-Ok-Some.ensures.asked, c.respond.ensures.asked)
 
 pub returns-in-Ok-Some-clause-statuses : goal.returns-in-Ok-Some-clause-statuses
-returns-in-Ok-Some-clause-statuses g c = status_so _ c.in-Ok-Some.request c.respond.result.status (sym c.in-Ok-Some.field-0-is ∙ c.in-Ok-Some.ensures.asked) c.respond.ensures.statuses
+returns-in-Ok-Some-clause-statuses g c = grind (arith, c.in-Ok-Some.ensures.asked, c.respond.ensures.statuses)
 
 pub returns-in-Ok-Some-clause-unread : goal.returns-in-Ok-Some-clause-unread
 returns-in-Ok-Some-clause-unread g c none = c.respond.ensures.unread (subst AsksNoInput (sym (sym c.in-Ok-Some.field-0-is ∙ c.in-Ok-Some.ensures.asked)) none)

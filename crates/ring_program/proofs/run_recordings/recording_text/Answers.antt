@@ -3,13 +3,13 @@ use Rattle.bits_core.specs.Shape.{capacity_of}
 use Rattle.call_lines.specs.Lines.{word_text}
 use Rattle.queue_calls.specs.Told.{told}
 use Rattle.ring_program.specs.RunRecordings.{run_counts}
-use Rattle.ring_program.proofs.RunText.{audits_more, begins_run, leaves_less, meant_exactly, records_run, writes_more}
+use Rattle.ring_program.proofs.RunText.{audits_more, begins_run, leaves_less, records_run, writes_more}
 use Rattle.queue_calls.proofs.LawLemmas.{history_has_a_recording, linearizable_is_in_turn}
 use Rattle.ring_program.proofs.run_recordings.recording_text.Goals as goal
 
 pub lines-init : goal.lines-init
 lines-init g c =
-    grind (arith, begins_run, meant_exactly, c.new-text.ensures.bytes, c.text.ensures, c.first_word.ensures, c.capacity-capacity.ensures.value, c.in_ok-push_list.ensures.ok, c.new-auditor.ensures.reads, c.new-auditor.ensures.capacity, c.exactly.ensures, c.has_read.ensures, c.all-untold.ensures.items, c.all-untold.ensures.left)
+    grind (arith, begins_run, c.new-text.ensures.bytes, c.text.ensures, c.first_word.ensures, c.capacity-capacity.ensures.value, c.in_ok-push_list.ensures.ok, c.new-auditor.ensures.reads, c.new-auditor.ensures.capacity, c.exactly.ensures, c.has_read.ensures, c.all-untold.ensures.items, c.all-untold.ensures.left)
 
 pub lines-preserved : goal.lines-preserved
 lines-preserved g c =

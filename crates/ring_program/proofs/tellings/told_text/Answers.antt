@@ -1,13 +1,14 @@
-use Rattle.std.proofs.Common.{◌≡◌, ◌∙◌, ◌∷◌, ◌+◌, ap, drop, subst, string_bytes, arith}
+use Rattle.std.proofs.Common.{◌≡◌, ◌∙◌, ◌∷◌, ◌+◌, ap, drop, subst, string_bytes, arith, ap₂}
 use Rattle.std.proofs.lemmas.List.{drop_all}
 use Rattle.bits_core.specs.Shape.{capacity_of}
 use Rattle.queue_calls.specs.Told.{told as event_told}
 use Rattle.ring_player.specs.Tellings.{call_events}
-use Rattle.ring_program.proofs.TellingText.{IsToldSoFar, telling_begins, telling_goes_on, telling_is_small, telling_is_told, told_more}
+use Rattle.ring_program.proofs.TellingText.{IsToldSoFar, telling_goes_on, telling_is_small, telling_is_told, told_more}
 use Rattle.ring_program.proofs.tellings.told_text.Goals as goal
+use Rattle.ring_program.proofs.RecordingText.{line_is}
 
 pub loop-each-init : goal.loop-each-init
-loop-each-init g c = grind (arith, telling_begins, c.new-text.ensures.bytes, c.text.ensures, c.capacity.ensures.value, c.shape.ensures, c.in_ok-push_list.ensures.ok)
+loop-each-init g c = grind (arith, ap₂, line_is, c.new-text.ensures.bytes, c.text.ensures, c.capacity.ensures.value, c.shape.ensures, c.in_ok-push_list.ensures.ok)
 
 pub loop-each-preserved : goal.loop-each-preserved
 loop-each-preserved g c =

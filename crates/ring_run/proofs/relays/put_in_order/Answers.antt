@@ -1,8 +1,6 @@
-use Rattle.std.proofs.Common.{◌⊎◌, length, ◌≡◌, ◌+◌, ◌-◌, ◌≤◌, List, suc, ℕ, false, take, refl, ap, sym, ◌∙◌, subst, arith}
+use Rattle.std.proofs.Common.{◌≡◌, ◌+◌, ◌-◌, List, suc, ℕ, false, take, refl, ap, sym, ◌∙◌, subst, arith}
 use Rattle.std.proofs.Math.ListN.{drop}
-use Rattle.bits_core.specs.declared.shapes.Shape.{Shape}
 use Rattle.bits_core.specs.Shape.{batch_of}
-use Rattle.ring_core.specs.Puts.{IsBatch}
 use Rattle.ring_seats.specs.Ring.{Ring}
 use Rattle.ring_run.specs.Relays.{PutsAre}
 use Rattle.ring_run.proofs.RelayLemmas.{fit_there, ends_full, no_puts_are, offers, given_there, stored, was_full, same_trans, puts_there}

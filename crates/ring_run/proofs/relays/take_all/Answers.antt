@@ -1,12 +1,12 @@
-use Rattle.std.specs.Prelude.{◌-◌, if◌then◌else◌, min, vec_capacity}
+use Rattle.std.specs.Prelude.{◌-◌, if◌then◌else◌, min}
 use Rattle.std.proofs.lemmas.List.{length-append, length-take-le}
-use Rattle.std.proofs.Common.{rules, ◌≡◌, ◌+◌, ◌<◌, ◌≤◌, ℕ, Bool, false, List, ◌++◌, length, take, refl, ap, sym, subst, ◌∙◌, arith}
+use Rattle.std.proofs.Common.{rules, ◌≡◌, ◌+◌, ◌≤◌, ℕ, Bool, false, ◌++◌, length, take, refl, ap, sym, subst, ◌∙◌, arith}
 use Rattle.ring_core.specs.declared.replies.TakeBatchReply as replies
 use Rattle.ring_core.specs.declared.replies.TakeBatchReply.TheVariants as reply
 use Rattle.bits_core.specs.Shape.{take_batch_of}
 use Rattle.ring_seats.specs.Ring.{Ring}
 use Rattle.ring_ends.specs.Ends.{HasTakenAll}
-use Rattle.ring_run.specs.Relays.{HasTakenMore, TakesAre}
+use Rattle.ring_run.specs.Relays.{TakesAre}
 use Rattle.ring_run.proofs.RelayLemmas.{same_trans, takes_there, if_err}
 use Rattle.ring_run.proofs.RelayTakes.{ends_empty, no_takes_are, took, was_empty, was_told}
 use Rattle.ring_run.proofs.relays.take_all.Given.{Over}

@@ -1,5 +1,5 @@
 use Rattle.std.proofs.Common.{◌≡◌, ◌++◌, Option, List, ℕ, refl, sym, subst, rules}
-use Rattle.trace_text.proofs.Common.{RefusesTraceText, batch_of, capacity_of, modulus_of, take_batch_of, width_of, event_line, shape_line, TraceHearing, TraceFault, BadLine, TooLong}
+use Rattle.trace_text.proofs.Common.{RefusesTraceText, batch_of, capacity_of, modulus_of, take_batch_of, width_of, event_line, shape_line, TraceHearing, TraceFault, BadLine}
 use Rattle.trace_text.specs.TraceAudits.{BeginsWithNoLine, HasEnded}
 use Rattle.trace_text.proofs.TraceTexts.{bad_shape_more, behind_ended, event_ends, first_ended, next_ended, no_line_refused, nothing_ended, shape_ends, too_many}
 use Rattle.trace_text.proofs.trace_audits.read_line.Goals as goal

@@ -1,4 +1,4 @@
-use Rattle.std.proofs.Common.{◌≡◌, ◌∙◌, ℕ, ◌+◌, List, [], ◌∷◌, ◌++◌, replicate, refl, sym, ap, subst, append_assoc, append-nil, arith}
+use Rattle.std.proofs.Common.{◌≡◌, ◌∙◌, ℕ, ◌+◌, List, [], ◌∷◌, ◌++◌, replicate, ap, subst, append_assoc, append-nil, arith}
 use Rattle.std.proofs.lemmas.List.{replicate_more}
 use Rattle.bits_core.specs.declared.events.Side.{Side}
 use Rattle.near_misses.specs.NearSides.{NearHas}

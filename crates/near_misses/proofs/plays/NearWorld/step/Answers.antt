@@ -4,7 +4,7 @@ use Rattle.bits_core.specs.declared.events.Side.TheVariants.{P, C}
 use Rattle.near_misses.specs.NearPlays.{NearAsked, items_told}
 use Rattle.near_misses.specs.NearSides.{take_stand}
 use Rattle.ring_player.proofs.WorldParts.{on_err}
-use Rattle.near_misses.proofs.NearLemmas.{both_open, has_more, moves_held, none_told, other_due, stands_of}
+use Rattle.near_misses.proofs.NearLemmas.{has_more, moves_held, none_told, other_due}
 use Rattle.bits_core.proofs.LawLemmas.{open_changes}
 use Rattle.near_misses.proofs.plays.NearWorld.step.Goals as goal
 

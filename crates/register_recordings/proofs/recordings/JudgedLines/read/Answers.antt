@@ -1,4 +1,4 @@
-use Rattle.std.proofs.Common.{◌≡◌, ◌≢◌, ◌+◌, [], length, ap, refl, sym, arith}
+use Rattle.std.proofs.Common.{◌≡◌, ◌+◌, sym, arith}
 use Rattle.register_recordings.proofs.FurtherLines.{further_read, further_refused, goes_on_line, no_event}
 use Rattle.register_recordings.proofs.recordings.JudgedLines.read.Goals as goal
 

@@ -1,8 +1,8 @@
-use Rattle.std.proofs.Common.{◌≡◌, ◌++◌, ◌∙◌, inr, arith, length-append, ℕ, ap, length, subst}
+use Rattle.std.proofs.Common.{◌≡◌, inr, arith, ap, length, subst}
 use Rattle.ring_audit.specs.declared.takes.TakeStep.TheVariants as takes
 use Rattle.ring_audit.proofs.Common.{Event, Shape, TakeReading, HasReadTake, reading}
 use Rattle.ring_audit.specs.declared.takes.TakeStep.{TakeStep}
-use Rattle.ring_audit.proofs.Readings.{put_stops, put_goes, put_stores, put_counts, take_stops, take_goes, take_takes}
+use Rattle.ring_audit.proofs.Readings.{put_stops, put_stores, put_counts, take_stops}
 use Rattle.ring_audit.proofs.Rooms.{on_err, put_needs, take_needs, take_short}
 use Rattle.ring_audit.proofs.audits.Readers.read.Goals as goal
 

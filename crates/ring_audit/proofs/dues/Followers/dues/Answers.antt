@@ -1,4 +1,4 @@
-use Rattle.ring_audit.proofs.DueLemmas.{all_told, kept_in_order}
+use Rattle.ring_audit.proofs.DueLemmas.{all_told}
 use Rattle.ring_audit.proofs.dues.Followers.dues.Goals as goal
 
 pub returns-clause-due : goal.returns-clause-due

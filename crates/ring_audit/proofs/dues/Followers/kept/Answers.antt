@@ -1,4 +1,4 @@
-use Rattle.std.proofs.Common.{◌≡◌, Some, sym, subst, ◌∙◌, rules}
+use Rattle.std.proofs.Common.{◌≡◌, sym, subst, ◌∙◌, rules}
 use Rattle.ring_audit.specs.Dues.{GoesOnBehind}
 use Rattle.ring_audit.proofs.dues.Followers.kept.Goals.{else-eq-via-then-eq+else-goes_on, else-eq-via-else-eq}
 use Rattle.ring_audit.proofs.dues.Followers.kept.Goals as goal

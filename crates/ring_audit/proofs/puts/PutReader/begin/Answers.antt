@@ -1,7 +1,6 @@
-use Rattle.ring_audit.proofs.Common.{opening_event, X, P, Stops, Closing, the_view, PutReading, HasReadPut, IsReaderAt}
-use Rattle.std.proofs.Common.{◌≡◌, true, Some, None, sym, ap, ◌∙◌}
-use Rattle.bits_core.specs.declared.events.Access.TheVariants as begins
-use Rattle.ring_audit.proofs.PutReads.{at_stage, no_more}
+use Rattle.ring_audit.proofs.Common.{opening_event, P, Stops, PutReading, HasReadPut}
+use Rattle.std.proofs.Common.{sym, ap, ◌∙◌}
+use Rattle.ring_audit.proofs.PutReads.{no_more}
 use Rattle.ring_audit.proofs.puts.PutReader.begin.Goals as goal
 
 pub returns-in-Closed-clause-read : goal.returns-in-Closed-clause-read

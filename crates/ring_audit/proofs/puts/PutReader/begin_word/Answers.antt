@@ -1,4 +1,4 @@
-use Rattle.ring_audit.proofs.Common.{opening_event, P, Cell, Access, width_of, ReaderState, due_read, Stops, GoesOn, Choosing, Storing, the_view, PutReading}
+use Rattle.ring_audit.proofs.Common.{opening_event, P, Cell, Access, width_of, ReaderState, Stops, GoesOn, Choosing, Storing, the_view, PutReading}
 use Rattle.std.proofs.Common.{◌≡◌, ◌<◌, Bool, true, false, Some, None, sym, ap, ◌∙◌, arith}
 use Rattle.bits_core.specs.declared.events.Access.TheVariants as begins
 use Rattle.ring_audit.proofs.PutReads.{read_at, no_word_nor_count, read_due}

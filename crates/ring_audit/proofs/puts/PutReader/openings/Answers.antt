@@ -1,7 +1,7 @@
 use Rattle.std.proofs.Common.{◌≡◌, ◌≢◌, ◌<◌, true, Some, None, refl, subst, sym, ap, ◌∙◌, lit<}
 use Rattle.ring_audit.proofs.Common.{opening_event, P, R, X, Cell, modulus_of, width_of, row_read_by, Dues, the_view, PutReading, IsReaderAt, scan_due}
 use Rattle.bits_core.specs.declared.events.Access.TheVariants as begins
-use Rattle.ring_audit.specs.declared.puts.Stage.TheVariants.{Scanning, Storing, Counting, Closing}
+use Rattle.ring_audit.specs.declared.puts.Stage.TheVariants.{Scanning, Storing, Counting}
 use Rattle.ring_audit.proofs.PutReads.{at_stage, read_due, no_call, no_read, no_digit, no_bit, no_more}
 use Rattle.ring_audit.proofs.DueLemmas.{begins_by, two_in_order}
 use Rattle.ring_audit.proofs.puts.PutReader.openings.Goals as goal

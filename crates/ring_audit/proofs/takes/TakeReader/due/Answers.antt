@@ -3,7 +3,7 @@ use Rattle.ring_core.specs.declared.replies.TakeReply.TheVariants.{Closed}
 use Rattle.bits_core.specs.Shape.{take_batch_of}
 use Rattle.ring_core.specs.GoingOn.{WritesTakeCount}
 use Rattle.ring_audit.proofs.Common.{ConsumerState, IsBetweenWords, is_taking, ConsumerStands, Event, TakeReading, TakesStand}
-use Rattle.ring_audit.proofs.TakeReads.{not_due, due_takes, taking_or_told, wants_most, begun_stands}
+use Rattle.ring_audit.proofs.TakeReads.{not_due, due_takes, taking_or_told, wants_most}
 use Rattle.ring_audit.proofs.takes.TakeReader.due.Goals as goal
 
 -- the model of the consumer that is kept: it is the same, and stands after the takes

@@ -1,4 +1,4 @@
-use Rattle.std.proofs.Common.{◌≡◌, ◌⊎◌, ◌<◌, ◌≤◌, inl, inr, true, length, None, ap, sym, subst, ◌∙◌, arith}
+use Rattle.std.proofs.Common.{◌≡◌, ◌⊎◌, ◌<◌, ◌≤◌, true, length, None, ap, sym, subst, ◌∙◌, arith}
 use Rattle.bits_core.specs.Shape.{take_batch_of}
 use Rattle.ring_player.proofs.Nexts.{take_next, NextTake as NextOf}
 use Rattle.ring_player.proofs.Puttings.{none_of}

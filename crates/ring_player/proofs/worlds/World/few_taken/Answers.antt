@@ -1,5 +1,5 @@
 use Rattle.std.proofs.Common.{◌≤◌, length, ap, subst, arith}
-use Rattle.ring_player.proofs.Common.{C, open_access, Played, content_of, Content}
+use Rattle.ring_player.proofs.Common.{Played, content_of, Content}
 use Rattle.ring_player.proofs.TakesSoFar.{taken_few}
 use Rattle.ring_player.proofs.WorldParts.{first_few, taken_first}
 use Rattle.ring_player.proofs.worlds.World.few_taken.Goals as goal

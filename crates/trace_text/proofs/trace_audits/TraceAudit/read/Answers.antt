@@ -1,4 +1,4 @@
-use Rattle.std.proofs.Common.{◌++◌, ◌∙◌, List, ℕ, ap, sym, subst, append_assoc, rules}
+use Rattle.std.proofs.Common.{◌++◌, subst, append_assoc, rules}
 use Rattle.trace_text.proofs.Common.{RefusesTraceText, HasReadTrace}
 use Rattle.lists.proofs.Results.{then_err, then_ok}
 use Rattle.trace_text.proofs.TraceTexts.{behind_it, with_it}
