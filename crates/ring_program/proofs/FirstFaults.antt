@@ -1,5 +1,5 @@
 -- The position of the first fault of recorded calls, and of the first line at which a recorded register lacks a class.
-use Rattle.std.proofs.Common.{◌≡◌, ◌≢◌, ◌∙◌, ◌⊎◌, ℕ, ◌+◌, take, length-append, List, [], ◌∷◌, ◌++◌, None, inl, inr, append_assoc, ap, ap₂, length, refl, sym, subst, arith}
+use Rattle.std.proofs.Common.{◌≡◌, ◌≢◌, ◌∙◌, ◌⊎◌, ℕ, ◌+◌, take, length-append, List, [], ◌∷◌, ◌++◌, inl, inr, append_assoc, ap, ap₂, length, refl, sym, subst, arith}
 use Rattle.std.proofs.Math.ListN.{get_or}
 use Rattle.std.proofs.Math.Seq.{take-append_seam}
 use Rattle.std.specs.Prelude.{drop}
@@ -8,7 +8,7 @@ use Rattle.std.proofs.lemmas.List.Elements.{All-cons, All-head, All-nil, All-tai
 use Rattle.queue_calls.specs.Calls.{Event}
 use Rattle.call_lines.specs.Lines.{line_text}
 use Rattle.queue_calls.specs.Queue.{Capacity}
-use Rattle.queue_calls.specs.Recordings.{IsFaultOf, IsRecording, Line, first_word, line, lines_text, text_of}
+use Rattle.queue_calls.specs.Recordings.{IsRecording, Line, first_word, line, lines_text, text_of}
 use Rattle.line_parts.specs.LineEnds.{HasNoFeed}
 use Rattle.line_parts.proofs.LineFeeds.{feed_nowhere}
 use Rattle.register_calls.specs.declared.events.Class.{Class}

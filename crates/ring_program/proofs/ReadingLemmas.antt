@@ -11,8 +11,7 @@ use Rattle.queue_calls.specs.declared.recordings.CallsFinding.TheVariants.{Lawfu
 use Rattle.ring_program.proofs.FirstFaults.{holding_ends}
 use Rattle.ring_program.specs.Readings.{EndsAtFirstFault, HasNoFault, IsFaultAhead, IsFaultless, IsFoundBy, IsFoundIn, calls_ending_of}
 use Rattle.ring_program.specs.Texts.{calls_text_of}
-use Rattle.ring_program.specs.declared.answers.Ending.{Ending}
-use Rattle.ring_program.specs.declared.answers.Ending.TheVariants.{Done, FaultFound}
+use Rattle.ring_program.specs.declared.answers.Ending.TheVariants.{FaultFound}
 
 -- bytes, a piece that was read in part, and then a line
 pub around : (bytes piece read line rest more : List ℕ) → piece ≡ (read ++ line) ++ rest → (bytes ++ read) ++ (line ++ (rest ++ more)) ≡ bytes ++ (piece ++ more)

@@ -1,11 +1,11 @@
 -- The finding on a recorded register that is read in pieces.
-use Rattle.std.proofs.Common.{◌≡◌, ◌∙◌, Bool, true, false, List, ℕ, [], ◌++◌, ap, append_assoc, refl, sym, arith}
+use Rattle.std.proofs.Common.{◌≡◌, Bool, true, false, List, ℕ, [], ◌++◌, append_assoc, refl, sym, arith}
 use Rattle.std.proofs.lemmas.List.{append-nil}
 use Rattle.register_calls.specs.declared.events.Class.{Class}
 use Rattle.register_recordings.specs.Recordings.{KeepsClass, falls_short}
 use Rattle.register_recordings.specs.declared.findings.RegisterFinding.{RegisterFinding}
 use Rattle.ring_program.specs.Readings.{EndsAtFirst, HoldsOfLines}
-use Rattle.ring_program.specs.Registers.{IsRegisterFoundBy, IsRegisterFoundIn, IsShortAhead, register_ending_of, short_ending_of}
+use Rattle.ring_program.specs.Registers.{IsRegisterFoundBy, IsRegisterFoundIn, IsShortAhead}
 use Rattle.ring_program.proofs.FirstFaults.{holding_ends}
 
 pub short_ahead :

@@ -14,8 +14,6 @@ use Rattle.queue_calls.specs.Recordings.{Line, begun_after, begun_behind, first_
 use Rattle.queue_calls.specs.Tellings.{HistoryHasARecording, LinearizableIsInTurn, TellsSmall, line_of, lines_of, numbers_in}
 use Rattle.queue_calls.specs.Told.{meant}
 use Rattle.queue_calls.specs.declared.auditors.CallAuditor.{CallAuditor}
-use Rattle.queue_calls.specs.declared.capacities.Capacity.{Capacity}
-use Rattle.queue_calls.specs.declared.capacities.Capacity.TheVariants.{Between}
 use Rattle.queue_calls.specs.declared.hearings.Begun.{Begun}
 use Rattle.queue_calls.specs.declared.hearings.Begun.TheVariants as begun
 use Rattle.ring_program.specs.RunRecordings.{AreOfRun, IsOfRun, RecordsRun, RunCounts, TellAllBut, nothing_left, room_with, stored_with}

@@ -3,7 +3,7 @@ use Rattle.std.proofs.Common.{◌≡◌, ◌∙◌, ℕ, ◌+◌, length, drop, 
 use Rattle.std.proofs.lemmas.List.{append-nil, drop_more}
 use Rattle.queue_calls.specs.Calls.{Event}
 use Rattle.queue_calls.specs.InTurn.{CallsAreInTurn}
-use Rattle.call_lines.specs.Lines.{AreSmall, word_text}
+use Rattle.call_lines.specs.Lines.{AreSmall}
 use Rattle.queue_calls.specs.Queue.{exactly}
 use Rattle.queue_calls.specs.Recordings.{IsRecording, begun_after, first_word, line, lines_text, text_of}
 use Rattle.queue_calls.specs.Tellings.{HistoryHasARecording, TellsSmall, line_of, lines_of, numbers_in}
@@ -16,8 +16,7 @@ use Rattle.ring_player.specs.Plays.{offered}
 use Rattle.ring_player.specs.Tellings.{call_events}
 use Rattle.ring_player.specs.declared.tellings.TakenItems.{TakenItems}
 use Rattle.ring_script.specs.Content.{Content}
-use Rattle.ring_program.specs.Texts.{first_items, items_behind, items_by, list_line, near_calls}
-use Rattle.ring_program.proofs.RecordingText.{line_is}
+use Rattle.ring_program.specs.Texts.{first_items, items_behind, items_by, near_calls}
 
 -- After a line with this capacity, the lines so far and those of the events that are left are those of the history; its numbers are
 -- small, if those of the events that are left are

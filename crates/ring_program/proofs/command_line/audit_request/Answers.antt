@@ -1,7 +1,7 @@
-use Rattle.std.proofs.Common.{◌≡◌, ◌∙◌, ap, Bool, true, false, List, Option, Some, None, sym, arith}
+use Rattle.std.proofs.Common.{◌≡◌, Bool, List, Option, arith}
 use Rattle.clap.proofs.WalkLemmas.{first_value-rows}
-use Rattle.clap.specs.Words.{Row, Text, first_of, found_of, rows_of}
-use Rattle.std.specs.Prelude.{codes, option_map}
+use Rattle.clap.specs.Words.{Row, Text, first_of}
+use Rattle.std.specs.Prelude.{codes}
 use Rattle.ring_program.specs.CommandLine.{audit_asked, audit_request_of, is_flag_given}
 use Rattle.ring_program.proofs.command_line.audit_request.Goals as goal
 

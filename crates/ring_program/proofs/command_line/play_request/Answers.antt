@@ -1,8 +1,7 @@
-use Rattle.std.proofs.Common.{◌≡◌, ◌∙◌, ap, codes, Bool, List, Option, refl, Some, arith}
-use Rattle.std.specs.Prelude.{option_and_then}
+use Rattle.std.proofs.Common.{◌≡◌, codes, Bool, List, Option, arith}
 use Rattle.clap.proofs.WalkLemmas.{first_value-rows}
-use Rattle.clap.specs.Words.{Row, Text, first_of, found_of, rows_of}
-use Rattle.ring_program.specs.CommandLine.{is_flag_given, play_asked, play_by, play_request_of}
+use Rattle.clap.specs.Words.{Row, Text, first_of}
+use Rattle.ring_program.specs.CommandLine.{is_flag_given, play_by, play_request_of}
 use Rattle.ring_program.proofs.command_line.play_request.Goals as goal
 
 -- the name and the flags that were given determine the request

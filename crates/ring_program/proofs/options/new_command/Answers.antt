@@ -1,5 +1,4 @@
-use Rattle.std.proofs.Common.{◌∙◌, Bool, ap, arith}
-use Rattle.clap.specs.Simple.{app_of_fields}
+use Rattle.std.proofs.Common.{Bool, arith}
 use Rattle.clap.specs.declared.builder.command.Command.{Command}
 use Rattle.clap.specs.declared.builder.command.Command.TheOpen.{Command-F}
 use Rattle.ring_program.proofs.options.new_command.Goals as goal

@@ -1,5 +1,5 @@
-use Rattle.std.proofs.Common.{◌∙◌, Some, ap, arith}
-use Rattle.clap.specs.Words.{Rule, rule_of}
+use Rattle.std.proofs.Common.{Some, arith}
+use Rattle.clap.specs.Words.{Rule}
 use Rattle.clap.specs.declared.builder.action.ArgAction.TheVariants.{Set}
 use Rattle.clap.specs.declared.builder.arg.Arg.{Arg}
 use Rattle.ring_program.proofs.options.value_option.Goals as goal

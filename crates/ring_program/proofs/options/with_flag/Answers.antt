@@ -1,7 +1,6 @@
-use Rattle.std.proofs.Common.{◌∙◌, Some, ap, arith}
-use Rattle.clap.specs.Words.{Rule, rule_of}
+use Rattle.std.proofs.Common.{Some, arith}
+use Rattle.clap.specs.Words.{Rule}
 use Rattle.clap.specs.declared.builder.action.ArgAction.TheVariants.{SetTrue}
-use Rattle.clap.specs.declared.builder.arg.Arg.{Arg}
 use Rattle.ring_program.proofs.CommandLemmas.{adds_option, if_ok}
 use Rattle.ring_program.proofs.options.with_flag.Goals as goal
 

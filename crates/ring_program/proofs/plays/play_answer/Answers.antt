@@ -1,4 +1,4 @@
-use Rattle.std.proofs.Common.{refl, arith}
+use Rattle.std.proofs.Common.{arith}
 use Rattle.ring_program.proofs.plays.play_answer.Goals as goal
 
 pub returns-clause-answered : goal.returns-clause-answered

@@ -1,5 +1,4 @@
-use Rattle.std.proofs.Common.{refl, arith}
-use Rattle.ring_program.specs.Texts.{summary_of}
+use Rattle.std.proofs.Common.{arith}
 use Rattle.ring_program.proofs.plays.report.Goals as goal
 
 pub returns-clause-told : goal.returns-clause-told

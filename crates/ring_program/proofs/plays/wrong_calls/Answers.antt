@@ -1,6 +1,4 @@
-use Rattle.std.proofs.Common.{◌∙◌, ℕ, List, ap₂, arith}
-use Rattle.queue_calls.specs.declared.events.CallEvent.{CallEvent}
-use Rattle.ring_program.specs.Texts.{near_calls, told_text_of}
+use Rattle.std.proofs.Common.{ap₂, arith}
 use Rattle.ring_program.proofs.plays.wrong_calls.Goals as goal
 
 pub returns-clause-told : goal.returns-clause-told

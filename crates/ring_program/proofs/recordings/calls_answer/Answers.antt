@@ -1,5 +1,4 @@
-use Rattle.std.proofs.Common.{string_bytes, arith}
-use Rattle.ring_program.specs.Readings.{AnswersCalls, IsFoundBy}
+use Rattle.std.proofs.Common.{arith}
 use Rattle.ring_program.proofs.ReadingLemmas.{of_input}
 use Rattle.ring_program.proofs.recordings.calls_answer.Goals as goal
 

@@ -1,4 +1,4 @@
-use Rattle.std.proofs.Common.{◌++◌, codes, string_bytes, arith}
+use Rattle.std.proofs.Common.{◌++◌, codes, string_bytes}
 use Rattle.ring_program.specs.Registers.{none_inverts_line}
 use Rattle.ring_program.specs.Texts.{count_line}
 use Rattle.ring_program.proofs.TextLemmas.{behind}

@@ -1,5 +1,5 @@
-use Rattle.std.proofs.Common.{◌≡◌, ◌⊎◌, Bool, true, false, Result, Ok, Err, IfOk, inl, inr, refl, string_bytes, sym, subst, arith}
-use Rattle.ring_program.specs.Registers.{AnswersRegister, IsRegisterFoundBy, register_ending_of, short_ending_of}
+use Rattle.std.proofs.Common.{◌≡◌, ◌⊎◌, Bool, true, false, inl, inr, arith}
+use Rattle.ring_program.specs.Registers.{short_ending_of}
 use Rattle.ring_program.specs.declared.answers.Ending.{Ending}
 use Rattle.ring_program.specs.declared.answers.Ending.TheVariants.{Done, FaultFound}
 use Rattle.ring_program.proofs.ReadingLemmas.{of_input}

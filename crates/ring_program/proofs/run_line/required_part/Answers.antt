@@ -1,4 +1,4 @@
-use Rattle.std.proofs.Common.{codes, arith}
+use Rattle.std.proofs.Common.{codes}
 use Rattle.ring_program.proofs.CommandLemmas.{one_more}
 use Rattle.ring_program.specs.CommandLine.{largest, required_rule}
 use Rattle.ring_program.proofs.run_line.required_part.Goals as goal

@@ -1,6 +1,5 @@
-use Rattle.std.proofs.Common.{◌∙◌, true, ap, arith}
-use Rattle.clap.specs.Words.{Rule, rule_of}
-use Rattle.clap.specs.declared.builder.arg.Arg.{Arg}
+use Rattle.std.proofs.Common.{true, arith}
+use Rattle.clap.specs.Words.{Rule}
 use Rattle.ring_program.proofs.CommandLemmas.{adds_option, if_ok}
 use Rattle.ring_program.proofs.run_line.with_required.Goals as goal
 

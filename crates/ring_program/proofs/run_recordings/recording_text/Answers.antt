@@ -1,6 +1,5 @@
-use Rattle.std.proofs.Common.{◌∙◌, ap, string_bytes, arith}
+use Rattle.std.proofs.Common.{arith}
 use Rattle.bits_core.specs.Shape.{capacity_of}
-use Rattle.call_lines.specs.Lines.{word_text}
 use Rattle.queue_calls.specs.Told.{told}
 use Rattle.ring_program.specs.RunRecordings.{run_counts}
 use Rattle.ring_program.proofs.RunText.{audits_more, begins_run, leaves_less, records_run, writes_more}

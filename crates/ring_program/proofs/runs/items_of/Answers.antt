@@ -1,6 +1,5 @@
-use Rattle.std.proofs.Common.{◌≡◌, ◌∙◌, ℕ, List, ◌∷◌, ◌++◌, [], is_ok, true, map, ap, ap₂, sym, arith}
+use Rattle.std.proofs.Common.{is_ok, ap₂, arith}
 use Rattle.std.proofs.lemmas.List.FromFn.{map-range_with_len_more}
-use Rattle.std.specs.List.{range_with_len}
 use Rattle.ring_program.specs.Runs.{run_item}
 use Rattle.ring_program.proofs.runs.items_of.Goals as goal
 

@@ -1,8 +1,7 @@
-use Rattle.std.proofs.Common.{◌≡◌, ◌∙◌, ℕ, List, string_bytes, take, sym, subst, arith}
+use Rattle.std.proofs.Common.{◌≡◌, ◌∙◌, ℕ, List, string_bytes, take, subst, arith}
 use Rattle.std.specs.Prelude.{option_map}
 use Rattle.std.specs.Duration.{as_nanos}
 use Rattle.bits_core.specs.Made.{IsPrefix}
-use Rattle.bits_core.specs.Shape.{AllFit}
 use Rattle.ring_run.specs.Relays.{IsRelayed}
 use Rattle.ring_program.specs.Answers.{TellsRun}
 use Rattle.ring_program.specs.Runs.{run_items}

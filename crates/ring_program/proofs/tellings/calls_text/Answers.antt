@@ -1,4 +1,4 @@
-use Rattle.std.proofs.Common.{◌∙◌, ap, false, arith}
+use Rattle.std.proofs.Common.{◌∙◌, ap, false}
 use Rattle.bits_core.specs.Shape.{capacity_of}
 use Rattle.ring_player.specs.Tellings.{call_events}
 use Rattle.ring_program.proofs.TellingText.{told_is_recording}

@@ -1,4 +1,4 @@
-use Rattle.std.proofs.Common.{◌≡◌, ◌∙◌, ◌∷◌, ◌+◌, ap, drop, subst, string_bytes, arith, ap₂}
+use Rattle.std.proofs.Common.{◌≡◌, ◌∷◌, ◌+◌, drop, subst, string_bytes, arith, ap₂}
 use Rattle.std.proofs.lemmas.List.{drop_all}
 use Rattle.bits_core.specs.Shape.{capacity_of}
 use Rattle.queue_calls.specs.Told.{told as event_told}

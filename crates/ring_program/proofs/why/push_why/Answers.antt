@@ -1,8 +1,6 @@
-use Rattle.std.proofs.Common.{[], refl, string_bytes, subst, sym, arith}
+use Rattle.std.proofs.Common.{arith}
 use Rattle.std.proofs.lemmas.List.{append-nil}
 use Rattle.bits_core.specs.declared.faults.Kind.TheVariants.{WrongSide, OutOfTurn, NotPermitted, NotProgram}
-use Rattle.bits_core.specs.declared.audits.Verdict.{Verdict}
-use Rattle.ring_program.specs.Why.{TellsWhy}
 use Rattle.ring_program.proofs.WhyLemmas.{fault_behind, fault_of_kind, fault_within, map_ok, not_following, why_there}
 use Rattle.bits_core.proofs.LawLemmas.{fault_breaks}
 use Rattle.ring_program.proofs.why.push_why.Goals as goal
