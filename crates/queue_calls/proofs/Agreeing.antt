@@ -92,9 +92,7 @@ module _ (past : List Event) (k : Kept) (a : Agrees past k) where
   asked_is = asked_fits k.take a.take_fits
 
   pub coming_is : items_of (coming past) ≡ k.inside
-  coming_is =
-      sym (drop-map (λ (o : Offered). o.item) (k_of past) (stored past ++ offers past)) ∙
-      (ap (λ z. drop z (items_of (stored past ++ offers past))) (sym a.count) ∙ (ap (λ z. drop (length a.gone) z) (sym a.row) ∙ drop-append_seam a.gone k.inside))
+  coming_is = grind (arith, drop-map, drop, length a.gone, drop-append_seam a.gone k.inside)
 
   pub long_coming : length (coming past) ≡ length k.inside
   long_coming = sym (length-map (coming past) (λ o. o.item)) ∙ ap length coming_is
@@ -112,9 +110,7 @@ module _ (past : List Event) (k : Kept) (a : Agrees past k) where
 
   -- a put that began before a close had ended
   offering : (n inside : ℕ) → k.put ≡ Offers n inside → (has_told past ≡ false) × (has_begun past ≡ has_ended past)
-  offering n inside e =
-      let f = as_put (Offers n inside) e in
-      (is_false (has_told past) (λ g. both ⊥ (has_begun past) (a.told g).1 f.3), not_more (has_begun past) (has_ended past) a.ended f.3)
+  offering n inside e = grind (arith, as_put, is_false, both, not_more)
 
   -- the items of the put under way, by themselves
   apart : a.gone ++ k.inside ≡ items_of (stored past) ++ items_of (offers past)
@@ -122,20 +118,12 @@ module _ (past : List Event) (k : Kept) (a : Agrees past k) where
 
   -- the put under way ends with this many of its items
   cut : (n inside count : ℕ) → k.put ≡ Offers n inside → count ≤ n → n - count ≤ length k.inside → a.gone ++ without (n - count) k.inside ≡ items_of (stored past) ++ take count (items_of (offers past))
-  cut n inside count e few some =
-      let f = as_put (Offers n inside) e in
-      let same : length (items_of (offers past)) ≡ n = length-map (offers past) (λ o. o.item) ∙ f.0 in
-      let G : ℕ → Type 0 = λ z. count ≤ z → z - count ≤ length k.inside → a.gone ++ without (z - count) k.inside ≡ items_of (stored past) ++ take count (items_of (offers past)) in
-      subst G same (row_cut a.gone k.inside (items_of (stored past)) (items_of (offers past)) count apart) few some
+  cut n inside count e few some = grind (arith, as_put, length, length-map, take, row_cut, apart, few)
 
   ends :
       (line n inside count : ℕ) → k.put ≡ Offers n inside → count ≤ n → n - count ≤ length k.inside →
       a.gone ++ without (n - count) k.inside ≡ items_of ((stored past ++ map (stored_at line) (take count (offers past))) ++ [])
-  ends line n inside count e few some =
-      let new = map (stored_at line) (take count (offers past)) in
-      cut n inside count e few some ∙
-      (ap (λ z. items_of (stored past) ++ z) (take-map (λ (o : Offered). o.item) count (offers past) ∙ sym (items_stored line (take count (offers past)))) ∙
-      (sym (items_both (stored past) new) ∙ ap items_of (sym (append-nil (stored past ++ new)))))
+  ends line n inside count e few some = grind (arith, map, take, cut, few, take-map, items_stored, items_both, append-nil)
 
   abbrev Then : Event → Kept → Type 0
   Then event after = Agrees (event ∷ past) after
@@ -148,122 +136,29 @@ module _ (past : List Event) (k : Kept) (a : Agrees past k) where
   at_rest e = a.row ∙ ap items_of (ap (λ z. stored past ++ z) e ∙ append-nil (stored past))
 
   open_begins : (items : List ℕ) → k.put ≡ Free → k.shut ≡ false → Then (PutBegin items) (kept (k.inside ++ items) (Offers (length items) (length k.inside)) k.take false)
-  open_begins items free open' =
-      let f = as_put Free free in
-      let (not_ended, not_told) = or_parts (has_ended past) (has_told past) (sym a.shut ∙ open') in
-      let new = map (offered_at (line_behind past)) items in
-      let R : Bool → Type 0 = λ z. a.gone ++ (k.inside ++ items) ≡ items_of (stored past ++ (if z then [] else new)) in
-      let P : Bool → Type 0 = λ z. PutFits (Offers (length items) (length k.inside)) (if z then [] else new) z (k_of past) (n_of past) (has_begun past) z in
-      record {
-        gone = a.gone;
-        row = subst R (sym not_ended) (sym (append_assoc a.gone k.inside items) ∙ (ap (λ z. z ++ items) (at_rest f.0) ∙ (ap (λ z. items_of (stored past) ++ z) (sym (items_offered (line_behind past) items)) ∙ sym (items_both (stored past) new))));
-        count = a.count;
-        put_fits = subst P (sym not_ended) (length-map items (offered_at (line_behind past)), refl, omega (arith, long, ap length f.0), f.1 ∙ not_ended);
-        take_fits = a.take_fits;
-        shut = sym open' ∙ a.shut;
-        told = λ g. both ((k.inside ++ items ≡ []) × (has_begun past ≡ true)) (has_told past) g not_told;
-        ended = a.ended;
-        steady = a.steady;
-      }
+  open_begins items free open' = grind (arith, as_put, or_parts, map, length, append_assoc, at_rest, items_offered, items_both, length-map, long, both)
 
   -- a put that begins when the queue is known to be closed begins after the end of a close
   pub is_late : k.put ≡ Free → k.shut ≡ true → has_ended past ≡ true
   is_late free shut = elim (one_of (has_ended past) (has_told past) (sym shut ∙ a.shut)) [ inl g ↦ g | inr g ↦ sym (as_put Free free).1 ∙ (a.told g).1 ]
 
   late_begins : (items : List ℕ) → k.put ≡ Free → k.shut ≡ true → Then (PutBegin items) (kept k.inside (Late (length items)) k.take true)
-  late_begins items free shut =
-      let f = as_put Free free in
-      let is_ended = is_late free shut in
-      let new = map (offered_at (line_behind past)) items in
-      let R : Bool → Type 0 = λ z. a.gone ++ k.inside ≡ items_of (stored past ++ (if z then [] else new)) in
-      let P : Bool → Type 0 = λ z. PutFits (Late (length items)) (if z then [] else new) z (k_of past) (n_of past) (has_begun past) z in
-      record {
-        gone = a.gone;
-        row = subst R (sym is_ended) (a.row ∙ ap (λ z. items_of (stored past ++ z)) f.0);
-        count = a.count;
-        put_fits = subst P (sym is_ended) (refl, refl, refl, a.ended is_ended);
-        take_fits = a.take_fits;
-        shut = sym shut ∙ a.shut;
-        told = a.told;
-        ended = a.ended;
-        steady = a.steady;
-      }
+  late_begins items free shut = grind (arith, as_put, is_late, map, length)
 
   put_ends : (reply : Reply ℕ) (n inside : ℕ) → k.put ≡ Offers n inside → passed 0 reply ≤ n → n - passed 0 reply ≤ length k.inside → Then (PutEnd reply) (kept (without (n - passed 0 reply) k.inside) Free k.take k.shut)
-  put_ends reply n inside e fewer some =
-      let (not_told, same) = offering n inside e in
-      record {
-        gone = a.gone;
-        row = ends (line_behind past) n inside (passed 0 reply) e fewer some;
-        count = a.count;
-        put_fits = (refl, same);
-        take_fits = a.take_fits;
-        shut = a.shut;
-        told = λ g. both ((without (n - passed 0 reply) k.inside ≡ []) × (has_begun past ≡ true)) (has_told past) g not_told;
-        ended = a.ended;
-        steady = λ g. absurd (both ⊥ (has_begun past) (a.ended (ended_grows past g)) (as_put (Offers n inside) e).3);
-      }
+  put_ends reply n inside e fewer some = grind (arith, offering, ends, both, ended_grows, as_put)
 
   late_ends : (reply : Reply ℕ) (n : ℕ) → k.put ≡ Late n → Then (PutEnd reply) (kept k.inside Free k.take k.shut)
-  late_ends reply n e =
-      let f = as_put (Late n) e in
-      let none : stored past ++ map (stored_at (line_behind past)) (take (passed 0 reply) (offers past)) ≡ stored past =
-      ap (λ z. stored past ++ map (stored_at (line_behind past)) z) (ap (λ z. take (passed 0 reply) z) f.0 ∙ take-nil (passed 0 reply)) ∙ append-nil (stored past) in
-      record {
-        gone = a.gone;
-        row = at_rest f.0 ∙ ap items_of (sym (append-nil _ ∙ none));
-        count = a.count;
-        put_fits = (refl, f.3 ∙ sym f.2);
-        take_fits = a.take_fits;
-        shut = a.shut;
-        told = a.told;
-        ended = a.ended;
-        steady = λ g. omega (arith, ap length none, a.steady g);
-      }
+  late_ends reply n e = grind (arith, as_put, map, take, take-nil, append-nil, at_rest, length)
 
   close_begins : k.put ≡ Free → Then CloseBegin (kept k.inside (Closes k.shut) k.take k.shut)
-  close_begins e =
-      let f = as_put Free e in
-      record {
-        gone = a.gone;
-        row = a.row;
-        count = a.count;
-        put_fits = (f.0, refl);
-        take_fits = a.take_fits;
-        shut = a.shut;
-        told = λ g. ((a.told g).0, refl);
-        ended = λ g. refl;
-        steady = a.steady;
-      }
+  close_begins e = grind (arith, as_put)
 
   close_ends : (again : Bool) → k.put ≡ Closes again → Then CloseEnd (kept k.inside Free k.take true)
-  close_ends again e =
-      let f = as_put (Closes again) e in
-      record {
-        gone = a.gone;
-        row = a.row;
-        count = a.count;
-        put_fits = (f.0, f.1);
-        take_fits = a.take_fits;
-        shut = refl;
-        told = a.told;
-        ended = λ g. f.1;
-        steady = a.steady;
-      }
+  close_ends again e = grind (arith, as_put)
 
   take_begins : (wanted : ℕ) → Then (TakeBegin wanted) (kept k.inside k.put (Waits wanted (length k.inside - offered_by k.put) k.shut) k.shut)
-  take_begins wanted =
-      record {
-        gone = a.gone;
-        row = a.row;
-        count = a.count;
-        put_fits = a.put_fits;
-        take_fits = (refl, omega (arith, long, offered_is), a.shut);
-        shut = a.shut;
-        told = a.told;
-        ended = a.ended;
-        steady = λ g. omega arith;
-      }
+  take_begins wanted = grind (arith, long, offered_is)
 
   takes : (reply : Reply (List ℕ)) → is_shut reply ≡ false → AreNext (passed [] reply) k.inside → Then (TakeEnd reply) (kept (drop (length (passed [] reply)) k.inside) k.put Rests k.shut)
   takes reply open' (rest, e) =
@@ -306,25 +201,11 @@ module _ (past : List Event) (k : Kept) (a : Agrees past k) where
   closing g = closing_fits k.put k.shut a.put_fits a.shut g
 
   takes_closed : k.inside ≡ [] → has_closed k.put k.shut ≡ true → Then (TakeEnd Shut) (kept [] k.put Rests true)
-  takes_closed none closed =
-      record {
-        gone = a.gone;
-        row = ap (λ z. a.gone ++ z) (sym none) ∙ a.row;
-        count = a.count ∙ ap length (sym (append-nil (taken past)));
-        put_fits = a.put_fits;
-        take_fits = refl;
-        shut = or_last (has_ended past);
-        told = λ g. (refl, begun_is closed);
-        ended = a.ended;
-        steady = a.steady;
-      }
+  takes_closed none closed = grind (arith, length, append-nil, or_last, begun_is)
 
   -- each event that can be counted
   pub step : (capacity : Capacity) (event : Event) (after : Kept) → Counts capacity k event after → Agrees (event ∷ past) after
-  step capacity (PutBegin items) after (free, some, begins) = elim begins [
-    | inl b ↦ to (PutBegin items) after _ b.1 (open_begins items free b.0)
-    | inr b ↦ to (PutBegin items) after _ b.1 (late_begins items free b.0)
-  ]
+  step capacity (PutBegin items) after (free, some, begins) = grind (arith, to, open_begins, late_begins)
   step capacity (PutEnd reply) after ends' = elim ends' [
     | inl (n, inside, is, open', within, lacks, fits) ↦ to (PutEnd reply) after _ fits.1 (put_ends reply n inside is (few (λ n. n) 0 reply n refl within) fits.0.0)
     | inr (n, is, none, e) ↦ to (PutEnd reply) after _ e (late_ends reply n is)
@@ -332,10 +213,7 @@ module _ (past : List Event) (k : Kept) (a : Agrees past k) where
   step capacity CloseBegin after (free, e) = to CloseBegin after _ e (close_begins free)
   step capacity CloseEnd after (again, is, e) = to CloseEnd after _ e (close_ends again is)
   step capacity (TakeBegin wanted) after (rests, some, e) = to (TakeBegin wanted) after _ e (take_begins wanted)
-  step capacity (TakeEnd reply) after (wanted, before, closed, is, ends') = elim ends' [
-    | inl (open', within, found, next, fits) ↦ to (TakeEnd reply) after _ fits.1 (takes reply open' next)
-    | inr (shuts, none, begun, e) ↦ subst (λ z. Then (TakeEnd z) after) (sym (shut_is reply shuts)) (to (TakeEnd Shut) after _ e (takes_closed none begun))
-  ]
+  step capacity (TakeEnd reply) after (wanted, before, closed, is, ends') = grind (arith, to, takes, shut_is, takes_closed)
 
 -- before the first event
 pub at_first : Agrees [] (kept [] Free Rests false)

@@ -74,8 +74,7 @@ rest_of (Waits wants inside closed) e = absurd cc
 pub items_next :
     (limit : ℕ) (capacity : Capacity) (why : Bool) (past : List Event) (first items : List ℕ) (rest : List Offered) → items_cause limit capacity why past first items rest ≡ None →
     AreNext items (items_of rest) × (fewer_cause capacity (length first + length items) why past ≡ None)
-items_next limit capacity why past first [] rest e =
-    let same : length first ≡ length first + 0 = omega arith in ((items_of rest, refl), subst (λ z. fewer_cause capacity z why past ≡ None) same e)
+items_next limit capacity why past first [] rest e = grind (arith, length)
 items_next limit capacity why past first (item ∷ items) [] e = absurd cc
 items_next limit capacity why past first (item ∷ items) (next ∷ rest) e =
     let count : length (first ++ item ∷ []) + length items ≡ length first + suc (length items) = omega (arith, length-append first (item ∷ [])) in
@@ -88,8 +87,7 @@ items_next limit capacity why past first (item ∷ items) (next ∷ rest) e =
 pub items_unspoken :
     (limit : ℕ) (capacity : Capacity) (why : Bool) (past : List Event) (first items : List ℕ) (rest : List Offered) → AreNext items (items_of rest) →
     fewer_cause capacity (length first + length items) why past ≡ None → items_cause limit capacity why past first items rest ≡ None
-items_unspoken limit capacity why past first [] rest next e =
-    let same : length first + 0 ≡ length first = omega arith in subst (λ z. fewer_cause capacity z why past ≡ None) same e
+items_unspoken limit capacity why past first [] rest next e = grind (arith, length)
 items_unspoken limit capacity why past first (item ∷ items) [] (left, g) e = absurd cc
 items_unspoken limit capacity why past first (item ∷ items) (next ∷ rest) (left, g) e =
     let same : next.item ≡ item = cc in
@@ -116,46 +114,22 @@ module _ (capacity : Capacity) (past : List Event) (k : Kept) (a : Agrees past k
 
   -- the items of the put under way that were not stored are inside
   pub rest_inside : (n inside count : ℕ) → k.put ≡ Offers n inside → count ≤ n → (nat_lt (n_of past + count) (k_of past) ≡ false) ↔ (n - count ≤ length k.inside)
-  rest_inside n inside count is few =
-      let f = as_put past k a (Offers n inside) is in (
-        λ e. omega (arith, ltb-false (n_of past + count) (k_of past) e, long past k a, f.0, few),
-        λ l. le-ltb (n_of past + count) (k_of past) (omega (arith, l, long past k a, f.0, few)),
-      )
+  rest_inside n inside count is few = grind (arith, as_put past k a (Offers n inside) is, ltb-false, long past k a, le-ltb)
 
   pub all_inside : (n inside : ℕ) → k.put ≡ Offers n inside → (nat_lt (n_of past) (k_of past) ≡ false) ↔ (n ≤ length k.inside)
-  all_inside n inside is =
-      let f = as_put past k a (Offers n inside) is in (
-        λ e. omega (arith, ltb-false (n_of past) (k_of past) e, long past k a, f.0),
-        λ l. le-ltb (n_of past) (k_of past) (omega (arith, l, long past k a, f.0)),
-      )
+  all_inside n inside is = grind (arith, as_put past k a (Offers n inside) is, ltb-false, long past k a, le-ltb)
 
   -- those that were stored fit
   pub stored_fit :
       (n inside count : ℕ) → k.put ≡ Offers n inside → count ≤ n →
       (not (can_hold capacity ((n_of past + count) - (k_of past + wanted past))) ≡ false) ↔ MayHold capacity ((length k.inside - (n - count)) - asked_by k.take)
-  stored_fit n inside count is few =
-      let least : ℕ = (n_of past + count) - (k_of past + wanted past) in
-      let same : least ≡ (length k.inside - (n - count)) - asked_by k.take = least_stored n inside count is few in (
-        λ e. subst (λ z. MayHold capacity z) same ((can_hold_tells capacity least).0 (not-false (can_hold capacity least) e)),
-        λ h. not_from_true (can_hold capacity least) ((can_hold_tells capacity least).1 (subst (λ z. MayHold capacity z) (sym same) h)),
-      )
+  stored_fit n inside count is few = grind (arith, length, take, least_stored, can_hold_tells, not-false, not_from_true)
 
   -- if not all were, there may have been no room for one more
   some_room :
       (n inside count : ℕ) → k.put ≡ Offers n inside →
       ((nat_lt count (length (offers past)) && not (can_lack capacity (n_of past - k_of (before_put past)) (suc count))) ≡ false) ↔ (count < n → LacksRoom capacity inside (suc count))
-  some_room n inside count is =
-      let f = as_put past k a (Offers n inside) is in
-      let most : ℕ = n_of past - k_of (before_put past) in
-      let same : most + suc count ≡ inside + suc count = omega (arith, most_inside n inside is) in (
-        λ e. λ l.
-            let fewer : nat_lt count (length (offers past)) ≡ true = lt-ltb count (length (offers past)) (omega (arith, l, f.0)) in
-            lacks_as capacity most (suc count) inside (suc count) same
-            ((can_lack_tells capacity most (suc count)).0 (not-false (can_lack capacity most (suc count)) (and_of (nat_lt count (length (offers past))) (not (can_lack capacity most (suc count))) e fewer))),
-        λ h. and_off (nat_lt count (length (offers past))) (not (can_lack capacity most (suc count))) (λ e.
-            let fewer : count < n = omega (arith, ltb-true count (length (offers past)) e, f.0) in
-            not_from_true (can_lack capacity most (suc count)) ((can_lack_tells capacity most (suc count)).1 (lacks_as capacity inside (suc count) most (suc count) (sym same) (h fewer)))),
-      )
+  some_room n inside count is = grind (arith, as_put, most_inside, nat_lt, length, lt-ltb, lacks_as, can_lack_tells, not-false, and_of, not, and_off, ltb-true, not_from_true)
 
   -- if the put says why
   pub some_lack :
@@ -167,36 +141,17 @@ module _ (capacity : Capacity) (past : List Event) (k : Kept) (a : Agrees past k
   -- if none was stored: no room for this many
   pub none_lack :
       (n inside count : ℕ) → k.put ≡ Offers n inside → (not (can_lack capacity (n_of past - k_of (before_put past)) count) ≡ false) ↔ LacksRoom capacity inside count
-  none_lack n inside count is =
-      let f = as_put past k a (Offers n inside) is in
-      let most : ℕ = n_of past - k_of (before_put past) in
-      let same : most + count ≡ inside + count = omega (arith, f.2) in (
-        λ e. lacks_as capacity most count inside count same ((can_lack_tells capacity most count).0 (not-false (can_lack capacity most count) e)),
-        λ h. not_from_true (can_lack capacity most count) ((can_lack_tells capacity most count).1 (lacks_as capacity inside count most count (sym same) h)),
-      )
+  none_lack n inside count is = grind (arith, as_put, lacks_as, can_lack_tells, not-false, not_from_true)
 
   -- those that were not taken fit
   pub left_fit : (count : ℕ) → (not_taken_cause capacity count past ≡ None) ↔ CanEndTake capacity (length k.inside) (offered_by k.put) count
-  left_fit count =
-      let least : ℕ = n_of past - (k_of past + count) in (
-        λ e. subst (λ z. MayHold capacity z) (least_left count) ((can_hold_tells capacity least).0 (none_on (can_hold capacity least) None _ e).0),
-        λ h. cond-true (can_hold capacity least) None _ ((can_hold_tells capacity least).1 (subst (λ z. MayHold capacity z) (sym (least_left count)) h)),
-      )
+  left_fit count = grind (arith, least_left, can_hold_tells, none_on, cond-true)
 
   -- if the take asked for more, it found no more
   none_more :
       (n inside : ℕ) (closed : Bool) (count : ℕ) → k.take ≡ Waits n inside closed →
       ((nat_lt count (wanted past) && nat_lt (k_of past + count) (n_of (before_take past))) ≡ false) ↔ (count < n → inside ≤ count)
-  none_more n inside closed count is =
-      let f = as_take past k a (Waits n inside closed) is in
-      let more : Bool = nat_lt (k_of past + count) (n_of (before_take past)) in (
-        λ e. λ l.
-            let fewer : nat_lt count (wanted past) ≡ true = lt-ltb count (wanted past) (omega (arith, l, f.0)) in
-            omega (arith, f.1, ltb-false (k_of past + count) (n_of (before_take past)) (and_of (nat_lt count (wanted past)) more e fewer)),
-        λ h. and_off (nat_lt count (wanted past)) more (λ e.
-            let fewer : count < n = omega (arith, ltb-true count (wanted past) e, f.0) in
-            le-ltb (k_of past + count) (n_of (before_take past)) (omega (arith, f.1, h fewer))),
-      )
+  none_more n inside closed count is = grind (arith, as_take, nat_lt, lt-ltb, ltb-false, and_of, and_off, ltb-true, le-ltb)
 
   -- if it says why
   pub no_more :
@@ -206,49 +161,24 @@ module _ (capacity : Capacity) (past : List Event) (k : Kept) (a : Agrees past k
 
   -- it found none
   pub none_found : (n inside : ℕ) (closed : Bool) → k.take ≡ Waits n inside closed → (nat_lt (k_of past) (n_of (before_take past)) ≡ false) ↔ (inside ≡ 0)
-  none_found n inside closed is =
-      let f = as_take past k a (Waits n inside closed) is in (
-        λ e. omega (arith, f.1, ltb-false (k_of past) (n_of (before_take past)) e),
-        λ e. le-ltb (k_of past) (n_of (before_take past)) (omega (arith, f.1, e)),
-      )
+  none_found n inside closed is = grind (arith, as_take, ltb-false, le-ltb)
 
   -- it found fewer than it asked for
   pub fewer_found :
       (n inside : ℕ) (closed : Bool) → k.take ≡ Waits n inside closed → 0 < n → (nat_lt (k_of past + (wanted past - 1)) (n_of (before_take past)) ≡ false) ↔ (inside < n)
-  fewer_found n inside closed is some =
-      let f = as_take past k a (Waits n inside closed) is in
-      let last : ℕ = k_of past + (wanted past - 1) in (
-        λ e. omega (arith, f.0, f.1, some, ltb-false last (n_of (before_take past)) e),
-        λ l. le-ltb last (n_of (before_take past)) (omega (arith, f.0, f.1, some, l)),
-      )
+  fewer_found n inside closed is some = grind (arith, as_take, ltb-false, le-ltb)
 
   -- it found a closed queue empty, and no take returned Closed
   pub drained :
       (n inside : ℕ) (closed : Bool) → k.take ≡ Waits n inside closed → has_told past ≡ false →
       ((has_ended (before_take past) && (n_of past == k_of past)) ≡ false) ↔ (closed ≡ true → 0 < inside)
   drained n inside closed is not_told =
-      let f = as_take past k a (Waits n inside closed) is in
-      let late : Bool = has_ended (before_take past) in
-      let known : late ≡ true → closed ≡ true = λ e. f.2 ∙ or_left late (has_told past) e in
-      let all_of : late ≡ true → k_of past + length k.inside ≡ n_of past = λ e.
-      omega (arith, long past k a, ap length (offers_none past k a (a.ended (ended_grows past e)))) in (
-        λ e. λ c. elim (cases_Bool late) [
-          | inl g ↦ omega (arith, all_of g, a.steady g, stored_grows past, f.1, eqb-false (n_of past) (k_of past) (and_of late (n_of past == k_of past) e g))
-          | inr g ↦ both (0 < inside) closed c (f.2 ∙ or_from late (has_told past) g not_told)
-        ],
-        λ h. and_off late (n_of past == k_of past) (λ e. ne_eqb (n_of past) (k_of past) (λ same. omega (arith, same, h (known e), stored_grows past, f.1))),
-      )
+      grind (arith, as_take past k a (Waits n inside closed) is, or_left, length k.inside, long past k a, offers_none, ended_grows, cases_Bool, stored_grows past, eqb-false, and_of, both, or_from, and_off, ne_eqb)
 
   -- the items are the next ones
   pub are_next :
       (limit : ℕ) (items : List ℕ) (why : Bool) → (items_cause limit capacity why past [] items (coming past) ≡ None) ↔ (AreNext items k.inside × (fewer_cause capacity (length items) why past ≡ None))
-  are_next limit items why =
-      let F : List ℕ → Type 0 = λ z. AreNext items z in
-      let G : ℕ → Type 0 = λ z. fewer_cause capacity z why past ≡ None in
-      let none : 0 + length items ≡ length items = omega arith in (
-        λ e. (let (next, f) = items_next limit capacity why past [] items (coming past) e in (subst F (coming_is past k a) next, subst G none f)),
-        λ (next, f). items_unspoken limit capacity why past [] items (coming past) (subst F (sym (coming_is past k a)) next) (subst G (sym none) f),
-      )
+  are_next limit items why = grind (arith, length items, items_next limit capacity why past, coming_is past k a, items_unspoken limit capacity why past)
 
   -- nothing is inside
   none_comes : (entries : List Offered) → (closed_cause entries ≡ None) ↔ (items_of entries ≡ [])
@@ -256,8 +186,7 @@ module _ (capacity : Capacity) (past : List Event) (k : Kept) (a : Agrees past k
   none_comes (next ∷ rest) = (λ e. absurd cc, λ e. absurd cc)
 
   pub none_inside : (closed_cause (coming past) ≡ None) ↔ (k.inside ≡ [])
-  none_inside =
-      (λ e. sym (coming_is past k a) ∙ (none_comes (coming past)).0 e, λ e. (none_comes (coming past)).1 (coming_is past k a ∙ e))
+  none_inside = grind (arith, coming_is past k a, none_comes (coming past))
 
   -- none of a late put was taken
   late_inside : (n : ℕ) → k.put ≡ Late n → nat_lt (n_of past) (k_of past) ≡ false
@@ -268,10 +197,7 @@ module _ (capacity : Capacity) (past : List Event) (k : Kept) (a : Agrees past k
   some_untold some = false_from_ne_true (has_told past) (λ e. omega (arith, some, ap length (a.told e).0))
 
   found_untold : (n inside : ℕ) (closed : Bool) → k.take ≡ Waits n inside closed → (closed ≡ true → 0 < inside) → has_told past ≡ false
-  found_untold n inside closed is found =
-      let f = as_take past k a (Waits n inside closed) is in
-      false_from_ne_true (has_told past) (λ e.
-      omega (arith, found (f.2 ∙ or_right (has_ended (before_take past)) (has_told past) e), f.1, stored_grows past, long past k a, ap length (a.told e).0))
+  found_untold n inside closed is found = grind (arith, as_take past k a (Waits n inside closed) is, false_from_ne_true, or_right, stored_grows past, long past k a, length)
 
   -- ---- nothing contradicts an event that can be counted
 
@@ -280,21 +206,9 @@ module _ (capacity : Capacity) (past : List Event) (k : Kept) (a : Agrees past k
       FoundFewer inside closed (length (passed [] reply)) (lacked_by reply (length (passed [] reply)) (n - length (passed [] reply))) → AreNext (passed [] reply) k.inside →
       CanEndTake capacity (length k.inside) (offered_by k.put) (length (passed [] reply)) → cause_of limit capacity (TakeEnd reply) past ≡ None
   taken_unspoken limit n inside closed (Passed items why) is open' (some, few) found (rest, next) fits =
-      let within : 0 < length k.inside = omega (arith, some, ap length next, length-append items rest) in
-      let fewer : why ≡ true → length items < n → inside ≤ length items = fewer_told inside closed items n why found in
-      off _ _ _ (some_untold within)
-      ((are_next limit items why).1 ((rest, next), off _ _ _ ((no_more n inside closed (length items) why is).1 fewer) ((left_fit (length items)).1 fits)))
-  taken_unspoken limit n inside closed Lacked is open' within found next fits =
-      let (less, more) = found (omega arith) in
-      let not_closed : closed ≡ false = false_from_ne_true closed (λ e. omega (arith, less, more refl e)) in
-      let f = as_take past k a (Waits n inside closed) is in
-      let (not_ended, not_told) = or_parts (has_ended (before_take past)) (has_told past) (sym f.2 ∙ not_closed) in
-      off _ _ _ not_told (off _ _ _ ((none_found n inside closed is).1 (omega (arith, less))) (off _ _ _ not_ended ((left_fit 0).1 fits)))
-  taken_unspoken limit n inside closed Short is open' several found next fits =
-      let (less, more) = found (omega (arith, several)) in
-      let not_told = found_untold n inside closed is (more refl) in
-      off _ _ _ not_told
-      (off _ _ _ ((fewer_found n inside closed is (omega (arith, several))).1 (omega (arith, less))) (off _ _ _ ((drained n inside closed is not_told).1 (more refl)) ((left_fit 0).1 fits)))
+      grind (arith, length, length-append, fewer_told, off, some_untold, are_next, no_more, left_fit)
+  taken_unspoken limit n inside closed Lacked is open' within found next fits = grind (arith, false_from_ne_true, as_take, or_parts, off, none_found, left_fit)
+  taken_unspoken limit n inside closed Short is open' several found next fits = grind (arith, found_untold, off, fewer_found, drained, left_fit)
   taken_unspoken limit n inside closed Nothing is open' within found next fits = (left_fit 0).1 fits
   taken_unspoken limit n inside closed Shut is open' within found next fits = absurd cc
 
@@ -307,27 +221,10 @@ module _ (capacity : Capacity) (past : List Event) (k : Kept) (a : Agrees past k
         (off _ _ _ ((stored_fit n inside count is within.1).1 fits.0.1) (off _ _ _ ((some_lack n inside count why is).1 (lacks_more capacity inside count n why lacks)) refl)))
     | inr (n, is, none, e) ↦ absurd (elim none [ inl g ↦ cc | inr g ↦ cc ])
   ]
-  unspoken limit (PutEnd Lacked) after c = elim c [
-    | inl (n, inside, is, open', within, lacks, fits) ↦
-        off _ _ _ (as_put past k a (Offers n inside) is).1
-        (off _ _ _ ((all_inside n inside is).1 (omega (arith, fits.0.0))) (off _ _ _ ((none_lack n inside 1 is).1 (lacks_room capacity inside 1 (omega arith) lacks)) refl))
-    | inr (n, is, none, e) ↦ absurd (elim none [ inl g ↦ cc | inr g ↦ cc ])
-  ]
-  unspoken limit (PutEnd Short) after c = elim c [
-    | inl (n, inside, is, open', several, lacks, fits) ↦ (
-        let f = as_put past k a (Offers n inside) is in
-        let lacks_all : LacksRoom capacity inside (length (offers past)) = subst (λ z. LacksRoom capacity inside z) (omega (arith, f.0)) (lacks_room capacity inside (n - 0) (omega (arith, several)) lacks) in
-        off _ _ _ f.1 (off _ _ _ ((all_inside n inside is).1 (omega (arith, fits.0.0))) (off _ _ _ ((none_lack n inside (length (offers past)) is).1 lacks_all) refl)))
-    | inr (n, is, none, e) ↦ absurd (elim none [ inl g ↦ cc | inr g ↦ cc ])
-  ]
-  unspoken limit (PutEnd Nothing) after c = elim c [
-    | inl (n, inside, is, open', within, lacks, fits) ↦ off _ _ _ ((all_inside n inside is).1 (omega (arith, fits.0.0))) refl
-    | inr (n, is, none, e) ↦ off _ _ _ (late_inside n is) refl
-  ]
-  unspoken limit (PutEnd Shut) after c = elim c [
-    | inl (n, inside, is, open', within, lacks, fits) ↦ absurd cc
-    | inr (n, is, none, e) ↦ cond-true _ _ _ (as_put past k a (Late n) is).1
-  ]
+  unspoken limit (PutEnd Lacked) after c = grind (arith, off, as_put, all_inside, none_lack, lacks_room)
+  unspoken limit (PutEnd Short) after c = grind (arith, as_put, length, lacks_room, off, all_inside, none_lack)
+  unspoken limit (PutEnd Nothing) after c = grind (arith, off, all_inside, late_inside)
+  unspoken limit (PutEnd Shut) after c = grind (arith, cond-true, as_put)
   unspoken limit CloseBegin after c = refl
   unspoken limit CloseEnd after c = refl
   unspoken limit (TakeBegin count) after c = refl
@@ -343,10 +240,7 @@ module _ (capacity : Capacity) (past : List Event) (k : Kept) (a : Agrees past k
 
   -- the put under way can end with none stored
   can_end : (n inside : ℕ) → k.put ≡ Offers n inside → nat_lt (n_of past) (k_of past) ≡ false → CanEndPut capacity (length k.inside) (asked_by k.take) (n - 0)
-  can_end n inside is e =
-      let f = as_put past k a (Offers n inside) is in
-      let same : length k.inside - (offered_by k.put + asked_by k.take) ≡ (length k.inside - (n - 0)) - asked_by k.take = omega (arith, offered_is past k a, f.0) in
-      (omega (arith, (all_inside capacity past k a n inside is).0 e), subst (λ z. MayHold capacity z) same few)
+  can_end n inside is e = grind (arith, as_put, length, take, offered_is, all_inside)
 
   -- if the put began before a close had ended
   early : {A : Type 0} (n : ℕ) → k.put ≡ Late n → has_ended (before_put past) ≡ false → A
@@ -516,8 +410,7 @@ module _ (capacity : Capacity) (past : List Event) (k : Kept) (a : Agrees past k
   counted limit (PutEnd Shut) next (n, is, w, m) e = put_closed_counted limit n is e
   counted limit CloseBegin next (free, m) e = (kept k.inside (Closes k.shut) k.take k.shut, (free_of k.put free, refl))
   counted limit CloseEnd next (is, m) e = (kept k.inside Free k.take true, (let (again, g) = close_of k.put is in (again, g, refl)))
-  counted limit (TakeBegin count) next (rests, some, m) e =
-      (kept k.inside k.put (Waits count (length k.inside - offered_by k.put) k.shut) k.shut, (rest_of k.take rests, some, refl))
+  counted limit (TakeBegin count) next (rests, some, m) e = grind (arith, length, rest_of, take)
   counted limit (TakeEnd (Passed items why)) next (n, is, (some, most), m) e = items_counted limit items why n is some most e
   counted limit (TakeEnd Lacked) next (n, is, w, m) e = empty_counted n is e
   counted limit (TakeEnd Short) next (n, is, several, m) e = take_short_counted n is several e
@@ -537,11 +430,7 @@ arrive :
     Arrived capacity (h ++ events) (reverse events ++ past)
 arrive capacity [] h past k a j c = (k, a, (let F : List Event → Type 0 = λ z. Stands capacity z k in subst F (sym (append-nil h)) j))
 arrive capacity (first ∷ events) h past k a j (after, now, later) =
-    let F : List Event → Type 0 = λ z. Arrived capacity (h ++ first ∷ events) z in
-    let G : List Event → Type 0 = λ z. Arrived capacity z (reverse events ++ (first ∷ past)) in
-    subst F (sym (turned_behind first events past))
-    (subst G (append_assoc h (first ∷ []) events)
-    (arrive capacity events (h ++ first ∷ []) (first ∷ past) after (step past k a capacity first after now) (counts_keeps capacity h k j first after now) later))
+    grind (arith, reverse, turned_behind, append_assoc, step, counts_keeps, arrive capacity events (h ++ first ∷ []) (first ∷ past) after (step past k a capacity first after now) (counts_keeps capacity h k j first after now) later)
 
 -- what is kept of a linearizable history, and agrees with its past
 pub arrived : (capacity : Capacity) (h : List Event) → IsProper capacity → IsLinearizable capacity h → Arrived capacity h (reverse h)
@@ -557,8 +446,7 @@ Reached capacity past event = (k : Kept) × Agrees past k × ((after : Kept) × 
 reach : (capacity : Capacity) (event : Event) (events past : List Event) (k : Kept) → Agrees past k → AreCounted capacity k (events ++ event ∷ []) → Reached capacity (reverse events ++ past) event
 reach capacity event [] past k a (after, now, later) = (k, a, (after, now))
 reach capacity event (first ∷ events) past k a (after, now, later) =
-    let F : List Event → Type 0 = λ z. Reached capacity z event in
-    subst F (sym (turned_behind first events past)) (reach capacity event events (first ∷ past) after (step past k a capacity first after now) later)
+    grind (arith, turned_behind, step, reach capacity event events (first ∷ past) after (step past k a capacity first after now) later)
 
 -- ---- the laws
 

@@ -121,8 +121,7 @@ module _ (capacity : Capacity) {past : List Event} {k : Kept} (a : Agrees past k
   -- ---- takes
 
   pub too_few : {z : Cause} (count : ℕ) → not_taken_cause capacity count past ≡ Some z → NotTaken ((length k.inside - count) - offered_by k.put) (line_behind (before_stored past)) ≡ z
-  too_few count e =
-      ap (λ y. NotTaken y (line_behind (before_stored past))) (sym (least_left capacity past k a count)) ∙ told_else _ _ _ e
+  too_few count e = grind (arith, least_left, told_else)
 
   module _ {n before : ℕ} {closed : Bool} (is : k.take ≡ Waits n before closed) where
     wants : wanted past ≡ n
@@ -202,15 +201,10 @@ module _ (capacity : Capacity) {past : List Event} {k : Kept} (a : Agrees past k
   first_entry (next ∷ rest) e = cc
 
   pub closed_inside : {z : Cause} → has_closed k.put k.shut ≡ true → (if has_begun past then closed_cause (coming past) else Some ClosedBeforeClose) ≡ Some z → ClosedWhileInside (at (coming past) 0) ≡ z
-  closed_inside {z} e f =
-      let F : Bool → Type 0 = λ b. (if b then closed_cause (coming past) else Some ClosedBeforeClose) ≡ Some z in
-      first_entry (coming past) (subst F (begun_is past k a e) f)
+  closed_inside {z} e f = grind (arith, first_entry, begun_is)
 
   pub closed_open : {z : Cause} → has_closed k.put k.shut ≡ false → (if has_begun past then closed_cause (coming past) else Some ClosedBeforeClose) ≡ Some z → ClosedBeforeClose ≡ z
-  closed_open {z} e f =
-      let none : has_begun past ≡ false = false_from_ne_true (has_begun past) (λ g. both ⊥ (has_closed k.put k.shut) (closing past k a g) e) in
-      let F : Bool → Type 0 = λ b. (if b then closed_cause (coming past) else Some ClosedBeforeClose) ≡ Some z in
-      let G : Some ClosedBeforeClose ≡ Some z = subst F none f in cc
+  closed_open {z} e f = grind (arith, false_from_ne_true, both, closing)
 
 -- ---- items
 
@@ -221,82 +215,38 @@ pub passed :
 passed limit capacity why past first [] rest = ap (λ z. items_cause limit capacity why past z [] rest) (sym (append-nil first))
 passed limit capacity why past first (item ∷ items) [] = ap (λ z. items_cause limit capacity why past z (item ∷ items) []) (sym (append-nil first))
 passed limit capacity why past first (item ∷ items) (next ∷ rest) =
-    elim (next.item == item) as (λ v. (next.item == item) ≡ v → items_cause limit capacity why past first (item ∷ items) (next ∷ rest) ≡
-    items_cause limit capacity why past (first ++ take (if v then suc (agreed items rest) else 0) (item ∷ items)) (drop (if v then suc (agreed items rest) else 0) (item ∷ items))
-    (drop (if v then suc (agreed items rest) else 0) (next ∷ rest))) [
-      | true ↦ λ e.
-          let p : ℕ = agreed items rest in
-          let on : items_cause limit capacity why past first (item ∷ items) (next ∷ rest) ≡ items_cause limit capacity why past (first ++ item ∷ []) items rest = cond-true _ _ _ e in
-          on ∙ passed limit capacity why past (first ++ item ∷ []) items rest ∙
-          ap (λ z. items_cause limit capacity why past z (drop p items) (drop p rest)) (append_assoc first (item ∷ []) (take p items))
-      | false ↦ λ e. ap (λ z. items_cause limit capacity why past z (item ∷ items) (next ∷ rest)) (sym (append-nil first))
-    ] refl
+    grind (arith, take, drop, cond-true, append_assoc, append-nil, passed limit capacity why past (first ++ item ∷ []) items rest)
 
 -- and the one after them is not the next
 pub not_passed : (items : List ℕ) (rest : List Offered) → agreed (drop (agreed items rest) items) (drop (agreed items rest) rest) ≡ 0
 not_passed [] rest = refl
 not_passed (item ∷ items) [] = refl
-not_passed (item ∷ items) (next ∷ rest) =
-    elim (next.item == item) as (λ v. (next.item == item) ≡ v →
-    agreed (drop (if v then suc (agreed items rest) else 0) (item ∷ items)) (drop (if v then suc (agreed items rest) else 0) (next ∷ rest)) ≡ 0) [
-      | true ↦ λ e. not_passed items rest
-      | false ↦ λ e. ap (λ b. if b then suc (agreed items rest) else 0) e
-    ] refl
+not_passed (item ∷ items) (next ∷ rest) = grind (arith, drop, not_passed items rest)
 
 pub agreed_few : (items : List ℕ) (rest : List Offered) → agreed items rest ≤ length items
 agreed_few [] rest = omega arith
 agreed_few (item ∷ items) [] = omega arith
-agreed_few (item ∷ items) (next ∷ rest) =
-    elim (next.item == item) as (λ v. (if v then suc (agreed items rest) else 0) ≤ suc (length items)) [
-      | true ↦ omega (arith, agreed_few items rest)
-      | false ↦ omega arith
-    ]
+agreed_few (item ∷ items) (next ∷ rest) = grind (arith, length, agreed_few items rest)
 
 pub one_not_passed : (item : ℕ) (more : List ℕ) (rest : List Offered) → agreed (item ∷ more) rest ≡ 0 → agreed (item ∷ []) rest ≡ 0
 one_not_passed item more [] e = refl
-one_not_passed item more (next ∷ rest) e =
-    elim (next.item == item) as (λ v. (if v then suc (agreed more rest) else 0) ≡ 0 → (if v then suc (agreed [] rest) else 0) ≡ 0) [
-      | true ↦ λ f. absurd (omega (arith, f))
-      | false ↦ λ f. refl
-    ] e
+one_not_passed item more (next ∷ rest) e = grind arith
 
 -- an item that a line took before others
 pub taken_first :
     (line item : ℕ) (first : List ℕ) (more : List Taken) → find (λ t. t.item == item) (map (taken_at line) first ++ more) ≡
     (if list_any (λ y. nat_eq y item) first then Some (taken_at line item) else find (λ t. t.item == item) more)
 taken_first line item [] more = refl
-taken_first line item (x ∷ first) more =
-    elim (nat_eq x item) as (λ v. nat_eq x item ≡ v → (if v then Some (taken_at line x) else find (λ t. t.item == item) (map (taken_at line) first ++ more)) ≡
-    (if (v || list_any (λ y. nat_eq y item) first) then Some (taken_at line item) else find (λ t. t.item == item) more)) [
-      | true ↦ λ e. ap (λ z. Some (taken_at line z)) (eqb-true x item e)
-      | false ↦ λ e. taken_first line item first more
-    ] refl
+taken_first line item (x ∷ first) more = grind (arith, eqb-true, taken_first line item first more)
 
 -- what is reported after those that are passed
 pub behind_passed :
     (limit : ℕ) (capacity : Capacity) (why : Bool) (past : List Event) (items : List ℕ) (rest : List Offered) (z : Cause) (q item d : ℕ) → q ≡ agreed items rest → q < length items → item ≡ get_or items q d →
     items_cause limit capacity why past [] items rest ≡ Some z →
     (agreed (item ∷ []) (drop (length (take q items)) rest) ≡ 0) × (items_cause limit capacity why past (take q items) (item ∷ drop (suc q) items) (drop (length (take q items)) rest) ≡ Some z)
-behind_passed limit capacity why past items rest z q item d is few at_it e =
-    let long : length (take q items) ≡ q = length-take-le q items (omega (arith, few)) in
-    let parts : drop q items ≡ item ∷ drop (suc q) items = drop-cons items q d few ∙ ap (λ x. x ∷ drop (suc q) items) (sym at_it) in
-    let F : ℕ → Type 0 = λ n. items_cause limit capacity why past (take n items) (drop n items) (drop n rest) ≡ Some z in
-    let told : F q = subst F (sym is) (sym (passed limit capacity why past [] items rest) ∙ e) in
-    let G : ℕ → Type 0 = λ n. agreed (drop n items) (drop n rest) ≡ 0 in
-    let none : G q = subst G (sym is) (not_passed items rest) in
-    let P : List ℕ → Type 0 = λ l. agreed l (drop q rest) ≡ 0 in
-    let Q : List ℕ → Type 0 = λ l. items_cause limit capacity why past (take q items) l (drop q rest) ≡ Some z in
-    let R : ℕ → Type 0 = λ n. (agreed (item ∷ []) (drop n rest) ≡ 0) × (items_cause limit capacity why past (take q items) (item ∷ drop (suc q) items) (drop n rest) ≡ Some z) in
-    subst R (sym long) (one_not_passed item (drop (suc q) items) (drop q rest) (subst P parts none), subst Q parts told)
+behind_passed limit capacity why past items rest z q item d is few at_it e = grind (arith, long, length, take, length-take-le, drop, drop-cons, passed, not_passed, one_not_passed)
 
 pub all_passed :
     (limit : ℕ) (capacity : Capacity) (why : Bool) (past : List Event) (items : List ℕ) (rest : List Offered) (z : Cause) (q : ℕ) → q ≡ agreed items rest → length items ≤ q →
     items_cause limit capacity why past [] items rest ≡ Some z → fewer_cause capacity (length items) why past ≡ Some z
-all_passed limit capacity why past items rest z q is many e =
-    let p : ℕ = agreed items rest in
-    let all : p ≡ length items = omega (arith, is, many, agreed_few items rest) in
-    let F : List ℕ → List ℕ → Type 0 = λ l m. items_cause limit capacity why past l m (drop p rest) ≡ Some z in
-    let told : F (take p items) (drop p items) = sym (passed limit capacity why past [] items rest) ∙ e in
-    let whole : take p items ≡ items = take_all p items (omega (arith, all)) in
-    let none : drop p items ≡ [] = drop_all p items (omega (arith, all)) in
-    subst (λ l. F l []) whole (subst (λ m. F (take p items) m) none told)
+all_passed limit capacity why past items rest z q is many e = grind (arith, length, agreed_few, drop, take, passed, take_all, drop_all)

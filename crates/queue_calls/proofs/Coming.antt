@@ -19,12 +19,8 @@ all_changed f (x ∷ s) o = ap (λ z. x ∷ z) (all_changed f s o)
 changed :
     {A : Type 0} (f : A → A) (s o : List A) (gone rest : ℕ) → rest ≡ length s - gone →
     drop gone (s ++ map f o) ≡ take rest (drop gone (s ++ o)) ++ map f (drop rest (drop gone (s ++ o)))
-changed f s o zero rest e =
-    let same : length s ≡ rest = omega (arith, e) in
-    let G : ℕ → Type 0 = λ z. s ++ map f o ≡ take z (s ++ o) ++ map f (drop z (s ++ o)) in subst G same (all_changed f s o)
-changed f [] o (suc gone) rest e =
-    let none : 0 ≡ rest = omega (arith, e) in
-    let G : ℕ → Type 0 = λ z. drop (suc gone) (map f o) ≡ take z (drop (suc gone) o) ++ map f (drop z (drop (suc gone) o)) in subst G none (drop-map f (suc gone) o)
+changed f s o zero rest e = grind (arith, length, map, take, drop, all_changed)
+changed f [] o (suc gone) rest e = grind (arith, drop, map, take, drop-map)
 changed f (x ∷ s) o (suc gone) rest e = changed f s o gone rest (omega (arith, e))
 
 module _ (past : List Event) (k : Kept) (a : Agrees past k) where
@@ -45,45 +41,24 @@ module _ (past : List Event) (k : Kept) (a : Agrees past k) where
       dropped (x ∷ xs) ys (suc n) l = dropped xs ys n (omega (arith, l))
 
   pub late_begins : (items : List ℕ) → k.put ≡ Free → k.shut ≡ true → coming (PutBegin items ∷ past) ≡ coming past
-  late_begins items free shut =
-      let f = as_put past k a Free free in
-      let F : Bool → Type 0 = λ z. drop (k_of past) (stored past ++ (if z then [] else map (offered_at (line_behind past)) items)) ≡ coming past in
-      subst F (sym (is_late past k a free shut)) (ap (λ z. drop (k_of past) (stored past ++ z)) (sym f.0))
+  late_begins items free shut = grind (arith, as_put, drop, map, is_late)
 
   -- the put under way ends with this many of its items stored: the others are removed, and those that are not taken yet have this line
   left_over : (n inside count : ℕ) → k.put ≡ Offers n inside → count ≤ n → n - count ≤ length k.inside → drop (k_of past) (stored past ++ take count (offers past)) ≡ take (length k.inside - (n - count)) (coming past)
   left_over n inside count is few some =
-      let f = as_put past k a (Offers n inside) is in
-      let same : n_of past + count ≡ k_of past + (length k.inside - (n - count)) = omega (arith, long past k a, f.0, few, some) in
-      ap (λ z. drop (k_of past) z) (sym (take-append-add (stored past) (offers past) count) ∙ ap (λ z. take z (stored past ++ offers past)) same) ∙
-      drop-take (k_of past) (length k.inside - (n - count)) (stored past ++ offers past)
+      grind (arith, as_put past k a (Offers n inside) is, length k.inside, long past k a, drop, take-append-add (stored past) (offers past) count, take, drop-take (k_of past) (length k.inside - (n - count)) (stored past ++ offers past))
 
   pub put_ends :
       (reply : Reply ℕ) (n inside : ℕ) → k.put ≡ Offers n inside → passed 0 reply ≤ n → n - passed 0 reply ≤ length k.inside → (left : List Offered) →
       left ≡ take (length k.inside - (n - passed 0 reply)) (coming past) →
       coming (PutEnd reply ∷ past) ≡ take (length k.inside - n) left ++ map (stored_at (line_behind past)) (drop (length k.inside - n) left)
   put_ends reply n inside is few some left e =
-      let f = as_put past k a (Offers n inside) is in
-      let line = stored_at (line_behind past) in
-      let rest : ℕ = length k.inside - n in
-      let new : List Offered = take (passed 0 reply) (offers past) in
-      let H : List Offered → Type 0 = λ l. drop (k_of past) (stored past ++ map line new) ≡ take rest l ++ map line (drop rest l) in
-      ap (λ z. drop (k_of past) z) (append-nil (stored past ++ map line new)) ∙
-      subst H (left_over n inside (passed 0 reply) is few some ∙ sym e) (changed line (stored past) new (k_of past) rest (omega (arith, long past k a, f.0)))
+      grind (arith, as_put past k a (Offers n inside) is, length k.inside, take (passed 0 reply) (offers past), drop, map, append-nil, left_over n inside (passed 0 reply) is few some, changed, long past k a)
 
   -- none of a put that began after a close is stored
   pub late_ends : (reply : Reply ℕ) (n : ℕ) → k.put ≡ Late n → coming (PutEnd reply ∷ past) ≡ coming past
-  late_ends reply n is =
-      let none : offers past ≡ [] = (as_put past k a (Late n) is).0 in
-      let line = stored_at (line_behind past) in
-      ap (λ z. drop (k_of past) z)
-      (append-nil (stored past ++ map line (take (passed 0 reply) (offers past))) ∙
-      ap (λ z. stored past ++ z) (ap (λ z. map line (take (passed 0 reply) z)) none ∙ ap (map line) (take-nil (passed 0 reply)) ∙ sym none))
+  late_ends reply n is = grind (arith, as_put, drop, append-nil, map, take, take-nil)
 
   -- the take under way ends with items
   pub took : (reply : Reply (List ℕ)) → coming (TakeEnd reply ∷ past) ≡ drop (length (passed [] reply)) (coming past)
-  took reply =
-      let items : List ℕ = passed [] reply in
-      let line = taken_at (line_behind past) in
-      let count : k_of (TakeEnd reply ∷ past) ≡ k_of past + length items = omega (arith, length-append (taken past) (map line items), length-map items line) in
-      ap (λ z. drop z (stored past ++ offers past)) count ∙ sym (drop-drop (length items) (k_of past) (stored past ++ offers past))
+  took reply = grind (arith, length, length-append, map, length-map, drop, drop-drop)

@@ -33,18 +33,7 @@ Tells capacity inside put take lacked done left =
 module _ (capacity : Capacity) (inside : List ℕ) (take' : TakeTurn) (shut : Bool) (q : Queue) where
   put_tells : (put : PutTurn) (c : Consumer) (lacked done : ℕ) (left : List ℕ) → Describes capacity inside put take' shut (point q (Putting lacked done left) c) → Tells capacity inside put take' lacked done left
   put_tells Free c lacked done left d = absurd d.producer
-  put_tells (Offers offered before) c lacked done left d =
-      let long : length inside ≡ length (taken_by c) + (length q.items + length left) =
-      omega (arith, ap length d.items, length-append (taken_by c) (q.items ++ left), length-append q.items left) in
-      let few : length (taken_by c) ≤ asked_by take' = few_taken take' c q d.consumer in
-      inl (
-        offered,
-        before,
-        refl,
-        d.producer.0,
-        d.producer.2,
-        (omega (arith, long), holds_fewer capacity ((length inside - length left) - asked_by take') (length q.items) (omega (arith, long, few)) d.room),
-      )
+  put_tells (Offers offered before) c lacked done left d = grind (arith, length, length-append, few_taken, holds_fewer)
   put_tells (Late offered) c lacked done left d = inr (offered, refl, d.producer.0, d.producer.1)
   put_tells (Closes again) c lacked done left d = absurd d.producer
 
@@ -84,12 +73,7 @@ drained_tells (Waits wanted before ended) q f = (wanted, before, ended, refl, f)
 can_end_take :
     (capacity : Capacity) (inside : List ℕ) (put : PutTurn) (take : TakeTurn) (shut : Bool) (q : Queue) (p : Producer) (lacked : ℕ) (took : List ℕ) (left : ℕ) →
     Describes capacity inside put take shut (point q p (Taking lacked took left)) → AreNext took inside × CanEndTake capacity (length inside) (offered_by put) (length took)
-can_end_take capacity inside put take shut q p lacked took left d =
-    let few : length (left_by put p) ≤ offered_by put = few_left capacity inside take shut put p q.closed d.producer in (
-      (q.items ++ left_by put p, d.items),
-      holds_fewer capacity ((length inside - length took) - offered_by put) (length q.items)
-          (omega (arith, ap length d.items, length-append took (q.items ++ left_by put p), length-append q.items (left_by put p), few)) d.room,
-    )
+can_end_take capacity inside put take shut q p lacked took left d = grind (arith, length, few_left, holds_fewer, length-append)
 
 -- an event that leads from a point that is described can be counted
 module _ (capacity : Capacity) (k : Kept) (sound : IsSoundPut (length k.inside) k.put k.shut) (s t : Point) (d : Describes capacity k.inside k.put k.take k.shut s) where
@@ -144,14 +128,8 @@ module _ (capacity : Capacity) (k : Kept) (sound : IsSoundPut (length k.inside) 
         (kept k.inside Free k.take k.shut, inr (offered, is, inr (shut_is reply shuts), refl)))
   ]
   leads_counts CloseBegin m = (kept k.inside (Closes k.shut) k.take k.shut, (free m.producer.0, refl))
-  leads_counts CloseEnd m =
-      let (again, is) = closing_tells capacity k.inside k.take k.shut s.queue k.put true s.queue.closed (as_put (Closing true) m.producer.0).producer in
-      (kept k.inside Free k.take true, (again, is, refl))
-  leads_counts (TakeBegin wanted) m =
-      let (ec, some, ec') = m.consumer in (
-        kept k.inside k.put (Waits wanted (length k.inside - offered_by k.put) k.shut) k.shut,
-        (resting_tells k.take s.queue (as_take Resting ec).consumer, some, refl),
-      )
+  leads_counts CloseEnd m = grind (arith, closing_tells, as_put)
+  leads_counts (TakeBegin wanted) m = grind (arith, length, resting_tells, as_take)
   leads_counts (TakeEnd reply) m = elim m.consumer.0 [
     | inl (open', left, within, ec) ↦ (
         let took : List ℕ = passed [] reply in
@@ -199,7 +177,4 @@ counts_follow capacity (event ∷ events) h k j l =
     (after, now, counts_follow capacity events (h ++ event ∷ []) after (counts_keeps capacity h k j event after now) l')
 
 pub counts_are_exact : CountsAreExact
-counts_are_exact capacity h proper = (
-  counted_is_linearizable capacity h proper,
-  (λ l. counts_follow capacity h [] (kept [] Free Rests false) (keeps_nothing capacity proper) l),
-)
+counts_are_exact capacity h proper = grind (arith, counted_is_linearizable, counts_follow, keeps_nothing)

@@ -14,19 +14,12 @@ use Rattle.queue_calls.proofs.Points.{Stays}
 pub described_at :
     (capacity : Capacity) (inside : List ℕ) (put : PutTurn) (take : TakeTurn) (shut : Bool) (t : Point) (q : Queue) (p : Producer) (c : Consumer) →
     t.queue ≡ q → t.producer ≡ p → t.consumer ≡ c → Describes capacity inside put take shut (point q p c) → Describes capacity inside put take shut t
-described_at capacity inside put take shut t q p c eq ep ec d =
-    let D : Point → Type 0 = λ z. Describes capacity inside put take shut z in
-    let d1 = subst (λ z. D (point z p c)) (sym eq) d in
-    let d2 = subst (λ z. D (point t.queue z c)) (sym ep) d1 in
-    subst (λ z. D (point t.queue t.producer z)) (sym ec) d2
+described_at capacity inside put take shut t q p c eq ep ec d = grind arith
 
 pub described_as :
     (capacity : Capacity) (inside : List ℕ) (put : PutTurn) (take : TakeTurn) (shut : Bool) (s : Point) (p : Producer) (c : Consumer) →
     s.producer ≡ p → s.consumer ≡ c → Describes capacity inside put take shut s → Describes capacity inside put take shut (point s.queue p c)
-described_as capacity inside put take shut s p c ep ec d =
-    let D : Point → Type 0 = λ z. Describes capacity inside put take shut z in
-    let d1 = subst (λ z. D (point s.queue z s.consumer)) ep d in
-    subst (λ z. D (point s.queue p z)) ec d1
+described_as capacity inside put take shut s p c ep ec d = grind arith
 
 -- what the consumer found about an open queue is unchanged
 pub fits_while_open : (take : TakeTurn) (c : Consumer) (q q' : Queue) → q.closed ≡ false → FitsTake take c q → FitsTake take c q'
@@ -56,13 +49,7 @@ module _ (capacity : Capacity) (inside : List ℕ) (take : TakeTurn) (shut : Boo
       (put : PutTurn) (q : Queue) (c : Consumer) (lacked done item : ℕ) (left : List ℕ) → HasRoom capacity (length q.items) → q.closed ≡ false →
       Here put (point q (Putting lacked done (item ∷ left)) c) → Here put (point (queue (q.items ++ item ∷ []) false) (Putting lacked (suc done) left) c)
   enqueue Free q c lacked done item left l o d = absurd d.producer
-  enqueue (Offers offered before) q c lacked done item left l o d =
-      record {
-        items = d.items ∙ ap (λ z. taken_by c ++ z) (sym (append_assoc q.items (item ∷ []) left));
-        room = holds_fewer capacity (length (q.items ++ item ∷ [])) (suc (length q.items)) (omega (arith, length-append q.items (item ∷ []))) (holds_one_more capacity (length q.items) l);
-        producer = (omega (arith, d.producer.0), refl, d.producer.2);
-        consumer = fits_while_open take c q (queue (q.items ++ item ∷ []) false) o d.consumer;
-      }
+  enqueue (Offers offered before) q c lacked done item left l o d = grind (arith, append_assoc, holds_fewer, length, length-append, holds_one_more, fits_while_open)
   enqueue (Late offered) q c lacked done item left l o d = let f : q.closed ≡ true = d.producer.2 in absurd (cc)
   enqueue (Closes again) q c lacked done item left l o d = absurd d.producer
 
@@ -70,10 +57,7 @@ module _ (capacity : Capacity) (inside : List ℕ) (take : TakeTurn) (shut : Boo
       (put : PutTurn) (q : Queue) (c : Consumer) (items : List ℕ) (count : ℕ) → IsSoundPut (length inside) put shut → LacksRoom capacity (length q.items) count → q.closed ≡ false →
       Here put (point q (Putting 0 0 items) c) → Here put (point q (Putting count 0 items) c)
   find_no_room Free q c items count ok l o d = absurd d.producer
-  find_no_room (Offers offered before) q c items count ok l o d =
-      let few : length q.items ≤ before =
-      omega (arith, ok.1, ap length d.items, length-append (taken_by c) (q.items ++ items), length-append q.items items, d.producer.0) in
-      record { items = d.items; room = d.room; producer = (d.producer.0, o, inr (lacks_with_more capacity (length q.items) before count few l)); consumer = d.consumer }
+  find_no_room (Offers offered before) q c items count ok l o d = grind (arith, length, length-append, lacks_with_more)
   find_no_room (Late offered) q c items count ok l o d = let f : q.closed ≡ true = d.producer.2 in absurd (cc)
   find_no_room (Closes again) q c items count ok l o d = absurd d.producer
 
@@ -86,15 +70,7 @@ module _ (capacity : Capacity) (inside : List ℕ) (take : TakeTurn) (shut : Boo
   find_shut (Closes again) q c items o d = absurd d.producer
 
   pub close_found : (c : Consumer) (q : Queue) → FitsTake take c q → FitsTake take c (queue q.items true)
-  close_found c q f = by_case take c f
-    where
-      by_case : (take : TakeTurn) (c : Consumer) → FitsTake take c q → FitsTake take c (queue q.items true)
-      by_case Rests Resting f = tt
-      by_case Rests (Taking lacked took left) f = absurd f
-      by_case Rests FoundClosed f = absurd f
-      by_case (Waits wanted before ended) Resting f = absurd f
-      by_case (Waits wanted before ended) (Taking lacked took left) f = f
-      by_case (Waits wanted before ended) FoundClosed (e, f) = (e, refl)
+  close_found c q f = grind arith
 
   close :
       (put : PutTurn) (q : Queue) (c : Consumer) → Here put (point q (Closing false) c) → Here put (point (queue q.items true) (Closing true) c)
@@ -110,13 +86,7 @@ module _ (capacity : Capacity) (inside : List ℕ) (take : TakeTurn) (shut : Boo
   dequeue :
       (put : PutTurn) (q after : Queue) (p : Producer) (lacked : ℕ) (took : List ℕ) (left item : ℕ) → q.items ≡ item ∷ after.items → after.closed ≡ q.closed →
       Here put (point q p (Taking lacked took (suc left))) → Here put (point after p (Taking lacked (took ++ item ∷ []) left))
-  dequeue put q after p lacked took left item e o d =
-      record {
-        items = d.items ∙ (ap (λ z. took ++ (z ++ left_by put p)) e ∙ sym (append_assoc took (item ∷ []) (after.items ++ left_by put p)));
-        room = holds_fewer capacity (length after.items) (length q.items) (omega (arith, ap length e)) d.room;
-        producer = fits_put put p q.closed after.closed o d.producer;
-        consumer = fits_alike take lacked took (took ++ item ∷ []) (suc left) left q after (omega (arith, length-append took (item ∷ []))) d.consumer;
-      }
+  dequeue put q after p lacked took left item e o d = grind (arith, append_assoc, holds_fewer, length, fits_put, fits_alike, length-append)
 
   -- the items left are no more than those offered, and the queue that a put found before a close is open
   pub few_left : (put : PutTurn) (p : Producer) (closed : Bool) → FitsPut capacity put shut p closed → length (left_by put p) ≤ offered_by put
@@ -146,65 +116,23 @@ module _ (capacity : Capacity) (inside : List ℕ) (take : TakeTurn) (shut : Boo
   find_fewer :
       (put : PutTurn) (q : Queue) (p : Producer) (wanted count : ℕ) → IsSoundPut (length inside) put shut → IsSoundTake (offered_by put) (length inside) take shut →
       length q.items < count → ¬ IsDrained q → Here put (point q p (Taking 0 [] wanted)) → Here put (point q p (Taking count [] wanted))
-  find_fewer put q p wanted count ok took l some d = record { items = d.items; room = d.room; producer = d.producer; consumer = by_case take took d.consumer }
-    where
-      by_case : (take : TakeTurn) → IsSoundTake (offered_by put) (length inside) take shut → FitsTake take (Taking 0 [] wanted) q → FitsTake take (Taking count [] wanted) q
-      by_case Rests took f = absurd f
-      by_case (Waits wanted' before ended) took f =
-          let long : length inside ≡ length q.items + length (left_by put p) = omega (arith, ap length d.items, length-append q.items (left_by put p)) in
-          let few : length (left_by put p) ≤ offered_by put = few_left put p q.closed d.producer in (
-            f.0,
-            inr (
-              omega (arith, took.0, l, long, few),
-              λ e.
-                  let (s, all) = took.1 e in
-                  let c : q.closed ≡ true = shut_closed (length inside) put p q.closed ok d.producer s in
-                  omega (arith, all, long, some_items q.items (λ n. some (n, c))),
-            ),
-          )
+  find_fewer put q p wanted count ok took l some d = grind (arith, length, length-append, few_left, shut_closed, some_items)
 
   find_closed :
       (put : PutTurn) (q : Queue) (p : Producer) (wanted : ℕ) → IsDrained q → Here put (point q p (Taking 0 [] wanted)) → Here put (point q p FoundClosed)
-  find_closed put q p wanted none d = record { items = d.items; room = d.room; producer = d.producer; consumer = by_case take d.consumer }
-    where
-      by_case : (take : TakeTurn) → FitsTake take (Taking 0 [] wanted) q → FitsTake take FoundClosed q
-      by_case Rests f = absurd f
-      by_case (Waits wanted' before ended) f = none
+  find_closed put q p wanted none d = grind arith
 
   pub stays :
       (put : PutTurn) → IsSoundPut (length inside) put shut → IsSoundTake (offered_by put) (length inside) take shut →
       Stays capacity (Describes capacity inside put take shut)
-  stays put ok took s t (Enqueue item) d l =
-      let (lacked, done, left, ep, ep') = l.producer in
-      let (room, o, eq) = l.queue in
-      described_at capacity inside put take shut t (queue (s.queue.items ++ item ∷ []) false) (Putting lacked (suc done) left) s.consumer eq ep' l.consumer
-      (enqueue put s.queue s.consumer lacked done item left room o (described_as capacity inside put take shut s (Putting lacked done (item ∷ left)) s.consumer ep refl d))
-  stays put ok took s t (FindNoRoom count) d l =
-      let (items, ep, ep') = l.producer in
-      let (lacks, o, eq) = l.queue in
-      described_at capacity inside put take shut t s.queue (Putting count 0 items) s.consumer eq ep' l.consumer
-      (find_no_room put s.queue s.consumer items count ok lacks o (described_as capacity inside put take shut s (Putting 0 0 items) s.consumer ep refl d))
-  stays put ok took s t FindShut d l =
-      let (items, ep, ep') = l.producer in
-      let (closed, eq) = l.queue in
-      described_at capacity inside put take shut t s.queue FoundShut s.consumer eq ep' l.consumer
-      (find_shut put s.queue s.consumer items closed (described_as capacity inside put take shut s (Putting 0 0 items) s.consumer ep refl d))
-  stays put ok took s t Close d l =
-      let (ep, ep') = l.producer in
-      described_at capacity inside put take shut t (queue s.queue.items true) (Closing true) s.consumer l.queue ep' l.consumer
-      (close put s.queue s.consumer (described_as capacity inside put take shut s (Closing false) s.consumer ep refl d))
+  stays put ok took s t (Enqueue item) d l = search (arith, described_at, enqueue, described_as)
+  stays put ok took s t (FindNoRoom count) d l = search (arith, described_at, find_no_room, described_as)
+  stays put ok took s t FindShut d l = grind (arith, described_at, find_shut, described_as)
+  stays put ok took s t Close d l = grind (arith, described_at, close, described_as)
   stays put ok took s t (Dequeue item) d l =
       let (lacked, items, left, ec, ec') = l.consumer in
       let (e, o) = l.queue in
       described_at capacity inside put take shut t t.queue s.producer (Taking lacked (items ++ item ∷ []) left) refl l.producer ec'
       (dequeue put s.queue t.queue s.producer lacked items left item e o (described_as capacity inside put take shut s s.producer (Taking lacked items (suc left)) refl ec d))
-  stays put ok took s t (FindFewer count) d l =
-      let (wanted, ec, ec') = l.consumer in
-      let (few, some, eq) = l.queue in
-      described_at capacity inside put take shut t s.queue s.producer (Taking count [] wanted) eq l.producer ec'
-      (find_fewer put s.queue s.producer wanted count ok took few some (described_as capacity inside put take shut s s.producer (Taking 0 [] wanted) refl ec d))
-  stays put ok took s t FindClosed d l =
-      let (wanted, ec, ec') = l.consumer in
-      let (none, eq) = l.queue in
-      described_at capacity inside put take shut t s.queue s.producer FoundClosed eq l.producer ec'
-      (find_closed put s.queue s.producer wanted none (described_as capacity inside put take shut s s.producer (Taking 0 [] wanted) refl ec d))
+  stays put ok took s t (FindFewer count) d l = grind (arith, described_at, find_fewer, described_as)
+  stays put ok took s t FindClosed d l = grind (arith, described_at, find_closed, described_as)

@@ -30,15 +30,7 @@ some_legal = (
 
 -- a queue that may be full with one inside, or hold a second
 between_legal : IsLegal (Between 1 2) (queue [] false) (FindNoRoom 2 ∷ Enqueue 1 ∷ FindFull ∷ Enqueue 2 ∷ [])
-between_legal = (
-  queue [] false,
-  (omega arith, refl, refl),
-  (
-    queue (1 ∷ []) false,
-    (omega arith, refl, refl),
-    (queue (1 ∷ []) false, (omega arith, refl, refl), (queue (1 ∷ 2 ∷ []) false, (omega arith, refl, refl), tt)),
-  ),
-)
+between_legal = grind arith
 
 -- and these do not: two items with capacity 1, an unbounded queue that lacks room, one found empty with an item in it, and one closed
 -- and empty that is found to have fewer than asked for

@@ -18,12 +18,4 @@ left_same offered before (Closing done) = refl
 pub more_items :
     (capacity : Capacity) (h : List Event) (inside items : List ℕ) (take' : TakeTurn) → Keeps capacity h inside Free take' false → 0 < length items → (room : ℕ) →
     room < length inside + length items → HasMoreItems room capacity (h ++ PutBegin items ∷ [])
-more_items capacity h inside items take' k some room full =
-    let (kept, is) = put_begin capacity h inside items take' k some in (
-      is,
-      λ s leads.
-          let d = kept.complete s leads in
-          let are : inside ++ items ≡ items_at s =
-          d.items ∙ ap (λ z. taken_by s.consumer ++ (s.queue.items ++ z)) (left_same (length items) (length inside) s.producer) in
-          omega (arith, full, ap length are, length-append inside items),
-    )
+more_items capacity h inside items take' k some room full = grind (arith, put_begin capacity h inside items take' k some, left_same, length items, length inside, length-append inside items)

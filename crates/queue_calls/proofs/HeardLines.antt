@@ -51,17 +51,12 @@ pub not_first : (b : Begun) (w : Word) (numbers : List ℕ) (event : Event) → 
 not_first b w numbers event e is_cut is = none-some event (sym (first_tells_none b is_cut numbers) ∙ sym (ap (λ (v : Word). event_told b v numbers) is) ∙ e)
 
 one_event : (b : Begun) (l : Line) → IsFurther l → (events : List Event) → length (and_then (event_told b l.word l.numbers) events) ≡ suc (length events)
-one_event b l further events =
-    elim (event_told b l.word l.numbers) as (λ o. event_told b l.word l.numbers ≡ o → length (and_then o events) ≡ suc (length events)) [
-      | None ↦ λ e. let first = no_event b l.word l.numbers e in absurd (further.0 first.0 first.1)
-      | Some event ↦ λ e. refl
-    ] refl
+one_event b l further events = grind (arith, length, no_event)
 
 -- as many events as lines
 pub as_many : (b : Begun) (lines : List Line) → All IsFurther lines → length (events_told b lines) ≡ length lines
 as_many b [] all = refl
-as_many b (l ∷ lines) all =
-    one_event b l (All-head IsFurther l lines all) (events_told (begun_after b l.word l.numbers) lines) ∙ ap suc (as_many (begun_after b l.word l.numbers) lines (All-tail IsFurther l lines all))
+as_many b (l ∷ lines) all = search (arith, one_event, All-head, All-tail, as_many (begun_after b l.word l.numbers) lines (All-tail IsFurther l lines all))
 
 and_then-append : (o : Option Event) (xs ys : List Event) → and_then o xs ++ ys ≡ and_then o (xs ++ ys)
 and_then-append None xs ys = refl
@@ -89,13 +84,7 @@ last_is [] l are = are.1
 last_is (first ∷ further) l are = (All-last further l are.2).1
 
 pub is_line : (before : List Line) (bytes : List ℕ) (l : Line) → ContinuesLines before bytes l → IsLine bytes l.word l.numbers
-is_line before bytes l on =
-    let format = last_is before l on.0 in
-    record {
-      text = on.1;
-      allowed = format.0;
-      small = format.1;
-    }
+is_line before bytes l on = grind (arith, last_is)
 
 -- the word of a line that continues lines is the one that was read
 same_word : (before : List Line) (bytes numbers : List ℕ) (w : Word) (l : Line) → IsLine bytes w numbers → ContinuesLines before bytes l → w ≡ l.word
@@ -109,9 +98,7 @@ not_the_first (x ∷ before) bytes numbers w l none other is on = absurd (omega 
 -- no line that continues others is without an event
 pub not_further : (before : List Line) (bytes numbers told : List ℕ) (b : Begun) (w : Word) (l : Line) → before ≢ [] → event_told b w told ≡ None → IsLine bytes w numbers → ¬ (ContinuesLines before bytes l)
 not_further [] bytes numbers told b w l some none is on = some refl
-not_further (x ∷ further) bytes numbers told b w l some none is on =
-    let first = no_event b w told none in
-    (All-last further l on.0.2).0 first.0 (sym (same_word (x ∷ further) bytes numbers w l is on) ∙ first.1)
+not_further (x ∷ further) bytes numbers told b w l some none is on = grind (arith, no_event b w told none, All-last further l on.0.2, same_word (x ∷ further) bytes numbers w l is on)
 
 -- the first line
 pub first_line : (before : List Line) (bytes numbers : List ℕ) (is_cut : Bool) → before ≡ [] → IsLine bytes (first_word is_cut) numbers → ContinuesLines before bytes (line (first_word is_cut) numbers)
@@ -134,21 +121,10 @@ further_line before is_cut bytes first further b w numbers event parts are is te
 
 pub count_is : (before : List Line) (is_cut : Bool) (first : List ℕ) (further : List Line) (b : Begun) (count line_number : ℕ) → before ≡ line (first_word is_cut) first ∷ further → AreLines before → count ≡ length before → line_number ≡ count + 1
     → length (events_told b further) + 2 ≡ line_number
-count_is before is_cut first further b count line_number parts are is next =
-    let were : AreLines (line (first_word is_cut) first ∷ further) = subst AreLines parts are in
-    let many : length (events_told b further) ≡ length further = as_many b further were.2 in
-    let all : length before ≡ length further + 1 = ap length parts ∙ omega arith in
-    omega (arith, many, all, is, next)
+count_is before is_cut first further b count line_number parts are is next = grind (arith, length, as_many)
 
 pub further_heard : {S O T N B : Type 0} (offered : O → List Offered) (last : T → List Taken) (hearing : Hearing S O T N B) (before : List Line) (is_cut : Bool) (first : List ℕ) (further : List Line) (w : Word) (numbers : List ℕ) (event : Event) → before ≡ line (first_word is_cut) first ∷ further
     → event_told (begun_behind begun.Nothing further) w numbers ≡ Some event → hearing.begun ≡ begun_after (begun_behind begun.Nothing further) w numbers
     → HasHeard offered last hearing (capacity_told first) (events_told begun.Nothing further ++ event ∷ []) → HeardLines offered last hearing is_cut (before ++ line w numbers ∷ [])
 further_heard offered last hearing before is_cut first further w numbers event parts tells behind heard =
-    let more : events_told begun.Nothing further ++ event ∷ [] ≡ events_told begun.Nothing (further ++ line w numbers ∷ []) =
-    sym (events_more begun.Nothing further (line w numbers) ∙ ap (λ (o : Option Event). events_told begun.Nothing further ++ and_then o []) tells) in (
-      first,
-      further ++ line w numbers ∷ [],
-      ap (λ (lines : List Line). lines ++ line w numbers ∷ []) parts,
-      behind ∙ sym (begun_more begun.Nothing further (line w numbers)),
-      subst (λ (events : List Event). HasHeard offered last hearing (capacity_told first) events) more heard,
-    )
+    grind (arith, events_more begun.Nothing further (line w numbers), begun_more begun.Nothing further (line w numbers))

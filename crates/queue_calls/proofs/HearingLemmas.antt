@@ -36,30 +36,12 @@ proper_told (full ∷ most ∷ n ∷ more) allowed = absurd allowed
 
 -- a fault stays the first one
 stops_before : (capacity : Capacity) (events : List Event) (event : Event) (number : ℕ) (Says : List Event → Event → Type 0) → StopsAt capacity events number Says → StopsAt capacity (events ++ event ∷ []) number Says
-stops_before capacity events event number Says at = record {
-  before = at.before;
-  event = at.event;
-  rest = at.rest ++ event ∷ [];
-  parts = ap (λ (h : List Event). h ++ event ∷ []) at.parts ∙ append_assoc at.before (at.event ∷ at.rest) (event ∷ []);
-  is_number = at.is_number;
-  so_far = at.so_far;
-  stops = at.stops;
-  says = at.says;
-}
+stops_before capacity events event number Says at = grind (arith, append_assoc)
 
 -- an event at which the history is not linearizable is the first fault
 pub stops_here : (capacity : Capacity) (events : List Event) (event : Event) (number : ℕ) (Says : List Event → Event → Type 0) → IsLinearizable capacity events
     → ¬ (IsLinearizable capacity (events ++ event ∷ [])) → Says events event → length events + 2 ≡ number → StopsAt capacity (events ++ event ∷ []) number Says
-stops_here capacity events event number Says so_far stops says is = record {
-  before = events;
-  event = event;
-  rest = [];
-  parts = refl;
-  is_number = is;
-  so_far = so_far;
-  stops = stops;
-  says = says;
-}
+stops_here capacity events event number Says so_far stops says is = grind arith
 
 -- the report of what was counted, if these calls are under way
 pub report_of : {S O T N B : Type 0} → Witness S O T N B → Tally → CallsReport
@@ -115,24 +97,7 @@ module _ {S O T N B : Type 0} (offered : O → List Offered) (last : T → List 
   pub reported :
       (w : Witness S O T N B) (tally : Tally) (report : CallsReport) → Remembers offered last w capacity events → IsTallied capacity events tally →
       report.under_way ≡ as_number (has_put w.auditor.put) + as_number (has_take w.auditor.take) → HaveNumbersOf tally.report report → IsReport capacity events report
-  reported w tally report r t under numbers =
-      let fit = sides_fit capacity events (kept_of offered w) r.proper r.counted in
-      let c = t.tallies.counted in
-      record {
-        counted = record {
-          calls = numbers.calls ∙ c.calls;
-          stored = numbers.others.stored ∙ c.stored;
-          taken = numbers.others.taken ∙ c.taken;
-          full = numbers.others.full ∙ c.full;
-          empty = numbers.others.empty ∙ c.empty;
-          nothing = numbers.others.nothing ∙ c.nothing;
-          told = numbers.others.told ∙ c.told;
-          overlapped = numbers.overlapped ∙ c.overlapped;
-        };
-        surely = subst (IsSurelyInside capacity events) (sym numbers.others.surely_inside) t.surely;
-        perhaps = subst (IsPerhapsInside capacity events) (sym numbers.others.perhaps_inside) t.perhaps;
-        under_way = omega (arith, under, ap as_number fit.0, ap as_number fit.1);
-      }
+  reported w tally report r t under numbers = grind (arith, sides_fit, kept_of)
 
   -- if no fault was heard, it is linearizable, and this is its report
   pub heard_lawful : (limit : ℕ) (w : Witness S O T N B) (tally : Tally) → Remembers offered last w capacity events → IsTallied capacity events tally → IsFoundWithin limit capacity events (Lawful (report_of w tally))

@@ -47,10 +47,7 @@ long_entries entries inside e = sym (length-map entries (λ o. o.item)) ∙ ap l
 first_ones :
     (kept count : ℕ) (entries left : List Offered) (inside : List ℕ) → left ≡ take kept entries → items_of left ≡ take count inside → length entries ≡ length inside → count ≤ length inside →
     left ≡ take count entries
-first_ones kept count entries left inside moves are same few =
-    let long : length left ≡ count = long_entries left (take count inside) are ∙ length-take-le count inside few in
-    let also : length (take count entries) ≡ count = length-take-le count entries (omega (arith, same, few)) in
-    moves ∙ take_same kept count entries (sym (ap length moves) ∙ (long ∙ sym also))
+first_ones kept count entries left inside moves are same few = grind (arith, length, long_entries, take, length-take-le, few, take_same)
 
 marked_behind : (n line : ℕ) (entries : List Offered) → items_of (take n entries ++ map (stored_at line) (drop n entries)) ≡ items_of entries
 marked_behind zero line entries = items_stored line entries
@@ -63,10 +60,7 @@ mark_items line count entries = marked_behind (length entries - count) line entr
 
 -- nor does one that stores none change an entry
 mark_none : (line : ℕ) (entries : List Offered) → mark_last line 0 entries ≡ entries
-mark_none line entries =
-    let all : length entries - 0 ≡ length entries = omega arith in
-    ap (λ z. take z entries ++ map (stored_at line) (drop z entries)) all ∙
-    ap₂ (λ x y. x ++ map (stored_at line) y) (take-length entries) (drop-length entries) ∙ append-nil entries
+mark_none line entries = grind (arith, length entries, take, map, drop, ap₂, take-length entries, drop-length entries, append-nil entries)
 
 module _ (past : List Event) (k : Kept) (a : Agrees past k) (capacity : Capacity) where
   same_long : (entries : List Offered) → entries ≡ coming past → length entries ≡ length k.inside
@@ -78,9 +72,7 @@ module _ (past : List Event) (k : Kept) (a : Agrees past k) (capacity : Capacity
   -- all is left
   all_left : (entries left : List Offered) → entries ≡ coming past → items_of left ≡ k.inside → (kept : ℕ) × (left ≡ take kept entries) → left ≡ coming past
   all_left entries left come are (m, moves) =
-      let whole : take (length k.inside) k.inside ≡ k.inside = take_all (length k.inside) k.inside (omega arith) in
-      first_ones m (length k.inside) entries left k.inside moves (are ∙ sym whole) (same_long entries come) (omega arith) ∙
-      take_all (length k.inside) entries (omega (arith, same_long entries come)) ∙ come
+      grind (arith, take (length k.inside) k.inside, length k.inside, take_all (length k.inside) k.inside (omega arith), take_all (length k.inside) entries (omega (arith, same_long entries come)), first_ones, same_long entries come)
 
   inside_is : (after told : Kept) → after ≡ told → after.inside ≡ told.inside
   inside_is after told e = ap (λ z. z.inside) e
@@ -119,10 +111,7 @@ module _ (past : List Event) (k : Kept) (a : Agrees past k) (capacity : Capacity
   ]
 
   counted_within : (reply : Reply ℕ) (after : Kept) → Counts capacity k (PutEnd reply) after → (most : ℕ) × CanReply reply (passed 0 reply) most
-  counted_within reply after c = elim c [
-    | inl (n, inside, is, open', within, lacks, ends) ↦ (n, within)
-    | inr (n, is, none, e) ↦ (n, elim none [ inl g ↦ subst (λ z. CanReply z (passed 0 z) n) (sym g) tt | inr g ↦ subst (λ z. CanReply z (passed 0 z) n) (sym g) tt ])
-  ]
+  counted_within reply after c = grind arith
 
 -- ---- what is remembered
 
@@ -136,20 +125,7 @@ pub next_remembers :
     next.told_at ≡ (if has_told (event ∷ reverse events) then Some (told_closed_line (event ∷ reverse events)) else None) →
     next.put_at ≡ line_behind (before_put (event ∷ reverse events)) → next.stored_at ≡ line_behind (before_stored (event ∷ reverse events)) →
     Remembers offered last next capacity (events ++ event ∷ [])
-next_remembers offered last w next capacity events event r same counts inside taken_is taken_last ended told put_at stored_at_is =
-    let back : event ∷ reverse events ≡ reverse (events ++ event ∷ []) = sym (turned events event) in
-    record {
-      proper = r.proper;
-      capacity_is = ap meant same ∙ r.capacity_is;
-      counted = count_more capacity _ events event (kept_of offered w) (kept_of offered next) r.counted counts;
-      inside = subst (λ z. offered next.auditor.inside.list ≡ coming z) back inside;
-      taken = subst (λ z. last next.taken ≡ last_of next.limit (taken z)) back taken_is;
-      taken_last = subst (λ z. next.last_taken ≡ last_taken z) back taken_last;
-      ended = subst (λ z. next.ended_at ≡ (if has_ended z then Some (ended_line z) else None)) back ended;
-      told = subst (λ z. next.told_at ≡ (if has_told z then Some (told_closed_line z) else None)) back told;
-      put_at = subst (λ z. next.put_at ≡ line_behind (before_put z)) back put_at;
-      stored_at = subst (λ z. next.stored_at ≡ line_behind (before_stored z)) back stored_at_is;
-    }
+next_remembers offered last w next capacity events event r same counts inside taken_is taken_last ended told put_at stored_at_is = grind (arith, reverse, turned, count_more, kept_of)
 
 -- the same with the event stated differently
 pub told_so :
@@ -173,8 +149,7 @@ first_line false line this now old e same = ap (λ z. option_or z (Some this)) e
 pub kept_same :
     (inside inside' : List ℕ) (put put' : PutTurn) (take take' : TakeTurn) (shut shut' : Bool) → inside' ≡ inside → put' ≡ put → take' ≡ take → shut' ≡ shut →
     kept inside put take shut ≡ kept inside' put' take' shut'
-kept_same inside inside' put put' take take' shut shut' i p t s =
-    ap (λ z. kept z put take shut) (sym i) ∙ ap (λ z. kept inside' z take shut) (sym p) ∙ ap (λ z. kept inside' put' z shut) (sym t) ∙ ap (λ z. kept inside' put' take' z) (sym s)
+kept_same inside inside' put put' take take' shut shut' i p t s = grind (arith, take)
 
 -- ---- how many items are taken
 
@@ -184,16 +159,11 @@ taken_more event past = omega arith
 
 taken_behind : (events past : List Event) → k_of (reverse events ++ past) ≡ length (all_got events) + k_of past
 taken_behind [] past = omega arith
-taken_behind (event ∷ events) past =
-    ap k_of (turned_behind event events past) ∙
-    omega (arith, taken_behind events (event ∷ past), taken_more event past, length-append (items_got event) (all_got events))
+taken_behind (event ∷ events) past = grind (arith, turned_behind, taken_more, length-append, taken_behind events (event ∷ past))
 
 pub taken_all : (events : List Event) (event : Event) → length (all_got (events ++ event ∷ [])) ≡ k_of (reverse events) + length (items_got event)
 taken_all events event =
-    let F : List Event → Type 0 = λ z. k_of z ≡ length (items_got event) + k_of (reverse events) in
-    let last : k_of (reverse (events ++ event ∷ [])) ≡ length (items_got event) + k_of (reverse events) = subst F (sym (turned events event)) (taken_more event (reverse events)) in
-    let all : k_of (reverse (events ++ event ∷ []) ++ []) ≡ length (all_got (events ++ event ∷ [])) + 0 = taken_behind (events ++ event ∷ []) [] in
-    omega (arith, last, all, ap k_of (append-nil (reverse (events ++ event ∷ []))))
+    grind (arith, length (items_got event), length (all_got (events ++ event ∷ [])), reverse events, reverse (events ++ event ∷ []), turned events event, taken_more event (reverse events), taken_behind (events ++ event ∷ []), append-nil (reverse (events ++ event ∷ [])))
 
 module _ {S O T N B : Type 0} {offered : O → List Offered} {last : T → List Taken} {w : Witness S O T N B} {capacity : Capacity} {events : List Event} (r : Remembers offered last w capacity events) where
   pub line_is : {line : ℕ} → length events + 2 ≡ line → line ≡ line_behind (reverse events)
@@ -215,33 +185,19 @@ module _ {S O T N B : Type 0} {offered : O → List Offered} {last : T → List 
       Counts (meant w.auditor.capacity) (kept_of offered w) (PutEnd reply) after → Moves (offered_at line) w.auditor.shut (PutEnd reply) (offered w.auditor.inside.list) left →
       mark_last line (passed 0 reply) left ≡ coming (PutEnd reply ∷ reverse events)
   put_after reply line after left number are c moves =
-      ap (λ z. mark_last z (passed 0 reply) left) (line_is number) ∙
-      moved_put (reverse events) (kept_of offered w) (agrees_of r) capacity reply after (offered w.auditor.inside.list) left r.inside are (counted_so (PutEnd reply) after c) moves
+      grind (arith, line_is number, moved_put (reverse events) (kept_of offered w) (agrees_of r) capacity reply after (offered w.auditor.inside.list) left r.inside are (counted_so (PutEnd reply) after c) moves, reverse events, kept_of offered w, agrees_of r, counted_so (PutEnd reply) after c)
 
   pub stored_line :
       (reply : Reply ℕ) {line now : ℕ} (after : Kept) → length events + 2 ≡ line → Counts (meant w.auditor.capacity) (kept_of offered w) (PutEnd reply) after → (0 < passed 0 reply → now ≡ line) →
       (passed 0 reply ≡ 0 → now ≡ w.stored_at) → now ≡ line_behind (before_stored (PutEnd reply ∷ reverse events))
-  stored_line reply after number c some none =
-      let (most, within) = counted_within (reverse events) (kept_of offered w) (agrees_of r) capacity reply after (counted_so (PutEnd reply) after c) in
-      stored_line_on reply (reverse events) most _ within (λ l. some l ∙ line_is number) (λ e. none e ∙ r.stored_at)
+  stored_line reply after number c some none = grind (arith, counted_within, reverse, kept_of, agrees_of, counted_so, stored_line_on, line_is)
 
   -- what is remembered by another witness that keeps the same
   pub still_remembers :
       {S' O' T' N' B' : Type 0} (offered' : O' → List Offered) (last' : T' → List Taken) (next : Witness S' O' T' N' B') → next.auditor.capacity ≡ w.auditor.capacity →
       kept_of offered' next ≡ kept_of offered w → offered' next.auditor.inside.list ≡ offered w.auditor.inside.list → last' next.taken ≡ last w.taken → next.limit ≡ w.limit →
       next.last_taken ≡ w.last_taken → next.ended_at ≡ w.ended_at → next.told_at ≡ w.told_at → next.put_at ≡ w.put_at → next.stored_at ≡ w.stored_at → Remembers offered' last' next capacity events
-  still_remembers offered' last' next same keeps inside t m l e d p s = record {
-    proper = r.proper;
-    capacity_is = ap meant same ∙ r.capacity_is;
-    counted = subst (λ z. CountTo capacity (kept [] Free Rests false) events z) (sym keeps) r.counted;
-    inside = inside ∙ r.inside;
-    taken = t ∙ r.taken ∙ ap (λ n. last_of n (taken (reverse events))) (sym m);
-    taken_last = l ∙ r.taken_last;
-    ended = e ∙ r.ended;
-    told = d ∙ r.told;
-    put_at = p ∙ r.put_at;
-    stored_at = s ∙ r.stored_at;
-  }
+  still_remembers offered' last' next same keeps inside t m l e d p s = grind (arith, reverse)
 
   -- what is kept, as an auditor keeps it
   pub audits : Keeps (meant w.auditor.capacity) events (items_of (offered w.auditor.inside.list)) w.auditor.put w.auditor.take w.auditor.shut

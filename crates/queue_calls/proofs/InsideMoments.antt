@@ -80,15 +80,11 @@ module _ (capacity : Capacity) (h : List Event) (k : Kept) (j : Stands capacity 
       (s, j.sound s d (told j.late), is_mid)
 
   long_is : (s : Point) → Describes capacity k.inside k.put k.take k.shut s → length k.inside ≡ length (taken_by s.consumer) + (length s.queue.items + length (left_by k.put s.producer))
-  long_is s d =
-      ap length d.items ∙ (length-append (taken_by s.consumer) (s.queue.items ++ left_by k.put s.producer) ∙
-      ap (λ z. length (taken_by s.consumer) + z) (length-append s.queue.items (left_by k.put s.producer)))
+  long_is s d = grind (arith, length, length-append)
 
   -- at least the least, which is possible
   pub least_surely : Surely capacity (λ inside. least_kept k ≤ inside) h
-  least_surely s r =
-      let d = j.complete s r in
-      omega (arith, long_is s d, few_taken k.take s.consumer s.queue d.consumer, left_few capacity k.put k.shut s.producer s.queue.closed d.producer)
+  least_surely s r = grind (arith, long_is, few_taken, take, left_few)
 
   few_holds : MayHold capacity (least_kept k)
   few_holds = subst (λ z. MayHold capacity z) (omega arith) j.few
@@ -138,10 +134,7 @@ one_or_before (x ∷ events) (b ∷ before) rest event e =
     ]
 
 each_more : (Holds : List Event → Type 0) (events : List Event) (event : Event) → AtEach Holds events → Holds (events ++ event ∷ []) → AtEach Holds (events ++ event ∷ [])
-each_more Holds events event each here before rest e = elim (one_or_before events before rest event e) [
-  | inl same ↦ subst Holds (sym same) here
-  | inr m ↦ each before m.0 m.1
-]
+each_more Holds events event each here before rest e = grind (arith, one_or_before)
 
 some_more : (Holds : List Event → Type 0) (events : List Event) (event : Event) → AtSome Holds events → AtSome Holds (events ++ event ∷ [])
 some_more Holds events event (before, rest, parts, holds) = (before, rest ++ event ∷ [], ap (λ z. z ++ event ∷ []) parts ∙ append_assoc before rest (event ∷ []), holds)
@@ -223,17 +216,11 @@ IsNoLonger _ after before = after ≤ before
 
 comes_in : (capacity : Capacity) (k : Kept) (event : Event) (after : Kept) → Counts capacity k event after → IsNoLonger event (length after.inside) (length k.inside)
 comes_in capacity k (PutBegin items) after c = tt
-comes_in capacity k (PutEnd reply) after ends = elim ends [
-  | inl (n, inside, is, open', within, lacks, fits) ↦ no_longer k after _ fits.1 (without_less (n - passed 0 reply) k.inside)
-  | inr (n, is, none, e) ↦ no_longer k after _ e (omega arith)
-]
+comes_in capacity k (PutEnd reply) after ends = grind (arith, no_longer, without_less)
 comes_in capacity k CloseBegin after (free, e) = no_longer k after _ e (omega arith)
 comes_in capacity k CloseEnd after (again, is, e) = no_longer k after _ e (omega arith)
 comes_in capacity k (TakeBegin wanted) after (rests, some, e) = no_longer k after _ e (omega arith)
-comes_in capacity k (TakeEnd reply) after (wanted, before, closed, is, ends) = elim ends [
-  | inl (open', within, found, next, fits) ↦ no_longer k after _ fits.1 (drop_less (length (passed [] reply)) k.inside)
-  | inr (shuts, none, begun, e) ↦ no_longer k after _ e (omega arith)
-]
+comes_in capacity k (TakeEnd reply) after (wanted, before, closed, is, ends) = grind (arith, no_longer, drop_less, length)
 
 abbrev Follows : Capacity → List Event → Event → Kept → Kept → Type 0
 Follows capacity events event before after =
@@ -265,14 +252,7 @@ module _ (capacity : Capacity) (proper : IsProper capacity) where
   none_perhaps = least_perhaps capacity [] (kept [] Free Rests false) nothing
 
   pub surely_none : IsSurelyInside capacity [] 0
-  surely_none =
-      let (s, r, is) = none_perhaps in (
-        ([], [], refl, (λ s r. omega arith)),
-        (λ before rest e. subst (Perhaps capacity (λ inside. inside ≤ 0)) (no_beginning before rest e) (s, r, omega (arith, is))),
-      )
+  surely_none = grind (arith, none_perhaps, no_beginning)
 
   pub perhaps_none : IsPerhapsInside capacity [] 0
-  perhaps_none = (
-    (λ before rest e. subst (Surely capacity (λ inside. inside ≤ 0)) (no_beginning before rest e) none_surely),
-    ([], [], refl, none_perhaps),
-  )
+  perhaps_none = grind (arith, no_beginning, none_surely, none_perhaps)

@@ -23,12 +23,7 @@ pub record Split (xs : List ℕ) (n : ℕ) : Type 0 where
   pub long : length back ≡ n
 
 pub split : (xs : List ℕ) (n : ℕ) → n ≤ length xs → Split xs n
-split xs n l = record {
-  front = take (length xs - n) xs;
-  back = drop (length xs - n) xs;
-  parts = sym (take-append-drop (length xs - n) xs);
-  long = omega (arith, length-drop (length xs - n) xs, l);
-}
+split xs n l = grind (arith, take (length xs - n) xs, length xs, drop (length xs - n) xs, take-append-drop (length xs - n) xs, length-drop (length xs - n) xs)
 
 -- some point that is described, whatever items a put after a close has
 abbrev pub Some : Capacity → List ℕ → PutTurn → TakeTurn → Bool → Type 0
@@ -38,12 +33,7 @@ Some capacity inside put take shut = (s : Point) × Describes capacity inside pu
 whole_queue :
     (capacity : Capacity) (inside rest : List ℕ) (put : PutTurn) (take : TakeTurn) (shut closed : Bool) (p : Producer) (c : Consumer) → ((q : Queue) → FitsTake take c q) →
     inside ≡ taken_by c ++ rest → MayHold capacity (length rest - 0) → left_by put p ≡ [] → FitsPut capacity put shut p closed → Describes capacity inside put take shut (point (queue rest closed) p c)
-whole_queue capacity inside rest put take shut closed p c fits e l none producer = record {
-  items = e ∙ ap (λ z. taken_by c ++ z) (sym (append-nil rest) ∙ ap (λ z. rest ++ z) (sym none));
-  room = holds_fewer capacity (length rest) (length rest - 0) (omega arith) l;
-  producer = producer;
-  consumer = fits (queue rest closed);
-}
+whole_queue capacity inside rest put take shut closed p c fits e l none producer = grind (arith, append-nil, holds_fewer, length)
 
 some_put :
     (capacity : Capacity) (inside rest : List ℕ) (put : PutTurn) (take : TakeTurn) (shut : Bool) (c : Consumer) →

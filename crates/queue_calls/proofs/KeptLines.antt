@@ -22,13 +22,7 @@ use Rattle.queue_calls.proofs.RecordingLemmas.{line_and}
 
 -- only a few more bytes
 pub still_begins : (is_first : Bool) (begun : ℕ) (cut bytes : List ℕ) → KeepsBeginning is_first begun cut → length (cut ++ bytes) < 2 * begun + 65536 → KeepsBeginning is_first begun (cut ++ bytes)
-still_begins is_first begun cut bytes keeps few =
-    let within : begun ≤ length cut = keeps.within in
-    record {
-      within = omega (arith, within, length-append cut bytes);
-      begins = subst (BeginsLine is_first) (sym (take-append-le begun cut bytes within)) keeps.begins;
-      few = few;
-    }
+still_begins is_first begun cut bytes keeps few = grind (arith, length, length-append, take-append-le)
 
 -- all of them
 pub all_begins : (is_first : Bool) (cut : List ℕ) → BeginsLine is_first cut → KeepsBeginning is_first (length cut) cut
@@ -64,9 +58,7 @@ other_tells w other = refl
 -- the first line has the capacity, and no other one
 place_of : (before : List Line) (l : Line) → AreLines (before ++ l ∷ []) → tells_queue l.word ≡ (length before == 0)
 place_of [] l are = ap tells_queue are.0.1 ∙ first_tells are.0.0
-place_of (first ∷ further) l are =
-    let some : (length (first ∷ further) == 0) ≡ false = grind (arith, nat_tests) in
-    other_tells l.word (last_of IsFurther further l are.2).0 ∙ sym some
+place_of (first ∷ further) l are = grind (arith, length, nat_tests, other_tells, last_of)
 
 fed : (rest more others : List ℕ) → rest ≢ [] → rest ++ more ≡ 10 ∷ others → (left : List ℕ) × (rest ≡ 10 ∷ left)
 fed [] more others some e = absurd (some refl)

@@ -49,9 +49,7 @@ module _ (item place i : ℕ) (entries : List Offered) (same : comes item (drop 
 
 -- the entry that is got at a place is there
 pub entry_at : (entries : List Offered) (i : ℕ) (next : Offered) → true ≡ nat_lt i (length entries) → next ≡ get_or entries i next → (i < length entries) × (next ≡ at entries i)
-entry_at entries i next within is =
-    let few : i < length entries = grind (arith, nat_tests, within) in
-    (few, get_or_read entries i next few is (offered_at 0 0))
+entry_at entries i next within is = grind (arith, length, nat_tests, get_or_read)
 
 module _ (items : List ℕ) (entries : List Offered) (i : ℕ) (same : agreed items entries ≡ agreed (drop i items) (drop i entries) + i) where
   module _ (h : i < length items) where
@@ -75,9 +73,7 @@ module _ (items : List ℕ) (entries : List Offered) (i : ℕ) (same : agreed it
         omega (arith, same, none)
 
   pub agreed_all : length items ≡ i → length items ≡ agreed items entries
-  agreed_all end =
-      let none : agreed (drop i items) (drop i entries) ≡ 0 = rw (drop_all i items (omega (arith, end))) refl in
-      omega (arith, same, none, end)
+  agreed_all end = grind (arith, drop, drop_all)
 
 -- ---- where an item is among those taken last
 
@@ -127,19 +123,10 @@ last_none_kept limit xs none = drop_all (length xs - limit) xs (omega (arith, no
 module _ (earlier : List Taken) (line : ℕ) (items : List ℕ) where
   pub last_in_line : (item : ℕ) → 0 < length items → item ≡ get_or items (length items - 1) 0 → taken_at line item ≡ last_in (earlier ++ map (taken_at line) items)
   last_in_line item some is =
-      let more : List Taken = map (taken_at line) items in
-      let place : ℕ = length (earlier ++ more) - 1 in
-      let sum : length (earlier ++ more) ≡ length earlier + length items = length-append earlier more ∙ ap (λ n. length earlier + n) (length-map items (taken_at line)) in
-      let behind : place - length earlier ≡ length items - 1 = omega (arith, sum, some) in
-      sym (get_or-append_right earlier more (length earlier) place (taken_at 0 0) refl (omega (arith, sum, some))
-      ∙ ap (λ n. get_or more n (taken_at 0 0)) behind
-      ∙ get_or-map (taken_at line) items (length items - 1) 0 (taken_at 0 0) (omega (arith, some))
-      ∙ ap (taken_at line) (sym is))
+      grind (arith, map (taken_at line) items, length earlier, length items, length-append, length-map items (taken_at line), get_or-append_right, get_or, get_or-map (taken_at line) items (length items - 1) 0 (taken_at 0 0) (omega (arith, some)))
 
   pub last_in_none : (last : Taken) → length items ≤ 0 → last ≡ last_in earlier → last ≡ last_in (earlier ++ map (taken_at line) items)
-  last_in_none last none is =
-      let all : earlier ++ map (taken_at line) items ≡ earlier = ap (λ l. earlier ++ map (taken_at line) l) (nil_from_length items (omega (arith, none))) ∙ append-nil earlier in
-      is ∙ ap last_in (sym all)
+  last_in_none last none is = grind (arith, map, nil_from_length, append-nil)
 
 -- the first one is removed if `limit` are kept
 abbrev pub MakesRoom : {A : Type 0} → ℕ → List A → List A → Type 0

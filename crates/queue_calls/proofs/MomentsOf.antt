@@ -14,18 +14,14 @@ From m (x ∷ xs) = (m ≤ x.number) × From m xs
 
 own_from : (s : Side) (m n : ℕ) (h : List Event) → m ≤ n → From m (own_events s n h)
 own_from s m n [] l = tt
-own_from s m n (e ∷ h) l =
-    let more = own_from s m (suc n) h (omega (arith, l)) in
-    picked (From m) s (side_of e) (numbered n e ∷ own_events s (suc n) h) (own_events s (suc n) h) (λ is. (l, more)) (λ not. more)
+own_from s m n (e ∷ h) l = grind (arith, picked, own_from s m (suc n) h (omega (arith, l)))
 
 first_start :
     (s : Side) (end m k : ℕ) (calls : List OwnStep) (o : RecordedOperation) (rest : List RecordedOperation) → From m (numbered_in calls) → m ≤ k →
     o ∷ rest ≡ recorded_operations s end k calls → m ≤ o.start
 first_start s end m k [] o rest f l e = absurd (cc)
 first_start s end m k (Comes x ∷ calls) o rest (g, f) l e = first_start s end m x.number calls o rest f g e
-first_start s end m k (Makes d ∷ calls) o rest f l e =
-    let first : o ≡ recorded_operation s d k (next_event end calls) = cc in
-    subst (λ (z : RecordedOperation). m ≤ z.start) (sym first) l
+first_start s end m k (Makes d ∷ calls) o rest f l e = grind (arith, start)
 
 next_is : (end : ℕ) (calls : List OwnStep) (x : Numbered) (rest : List Numbered) → numbered_in calls ≡ x ∷ rest → next_event end calls ≡ x.number
 next_is end [] x rest e = absurd (cc)
@@ -113,9 +109,7 @@ module _ (capacity : Capacity) (end : ℕ) where
       (e : Event) (h : List Event) (order : List RecordedOperation) → Goes h order → (n : ℕ) (q : Queue) (own : (y : Side) → Own y) → Rest capacity end n (e ∷ h) q own order →
       (past : List Event) → CanLeadTo capacity past (point_of q own) → (calls : List OwnStep) → (own (side_of e)).calls ≡ calls → ((d : Operation) (rest : List OwnStep) → calls ≡ Makes d ∷ rest → ⊥) →
       IsLinearizable capacity (past ++ e ∷ h)
-  next_comes e h order go n q own x past r [] is never =
-      let y = side_of e in
-      let mine : numbered n e ∷ own_events y (suc n) h ≡ [] = sym (pick_same y _ _) ∙ (x.sides y).events ∙ ap numbered_in is in absurd cc
+  next_comes e h order go n q own x past r [] is never = grind (arith, pick_same)
   next_comes e h order go n q own x past r (Makes d ∷ rest) is never = absurd (never d rest refl)
   next_comes e h order go n q own x past r (Comes v ∷ rest) is never =
       let y = side_of e in

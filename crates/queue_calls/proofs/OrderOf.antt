@@ -56,27 +56,18 @@ record Ordered (capacity : Capacity) (end : ℕ) (since : Side → ℕ) (n : ℕ
 
 next_late : (s : Side) (end n : ℕ) (w : List Mark) → n + length (events w) ≤ end → n ≤ next_event end (own s n w)
 next_late s end n [] l = omega (arith, l)
-next_late s end n (Happens e ∷ w) l =
-    let later = next_late s end (suc n) w (omega (arith, l)) in
-    picked (λ z. n ≤ next_event end z) s (side_of e) (Comes (numbered n e) ∷ own s (suc n) w) (own s (suc n) w) (λ is. omega arith) (λ not. omega (arith, later))
-next_late s end n (Effect d ∷ w) l =
-    let later = next_late s end n w l in
-    picked (λ z. n ≤ next_event end z) s (doer_of d) (Makes d ∷ own s n w) (own s n w) (λ is. later) (λ not. later)
+next_late s end n (Happens e ∷ w) l = grind (arith, picked, next_late s end (suc n) w (omega (arith, l)))
+next_late s end n (Effect d ∷ w) l = grind (arith, picked, next_late s end n w l)
 
 one_more : (capacity : Capacity) (end n start stop : ℕ) (s : Side) (d : Operation) (q after : Queue) (order : List RecordedOperation) → Step capacity q d after → IsLegal capacity after (recorded_does order) → KeepsRecordedTime order →
     ((o : RecordedOperation) → IsAmong o order → n ≤ o.stop) → start ≤ n → n ≤ stop →
     IsLegal capacity q (recorded_does (recorded_operation s d start stop ∷ order)) × KeepsRecordedTime (recorded_operation s d start stop ∷ order) × ((o : RecordedOperation) → IsAmong o (recorded_operation s d start stop ∷ order) → n ≤ o.stop)
-one_more capacity end n start stop s d q after order step legal keeps late ls le = (
-  (after, step, legal),
-  ((λ b i l. absurd (omega (arith, late b i, l, ls))), keeps),
-  (λ o i. elim i [ inl e ↦ subst (λ (z : RecordedOperation). n ≤ z.stop) (sym e) le | inr j ↦ late o j ]),
-)
+one_more capacity end n start stop s d q after order step legal keeps late ls le = grind arith
 
 ordered :
     (capacity : Capacity) (end : ℕ) (since : Side → ℕ) (n : ℕ) (w : List Mark) (s : Point) → n + length (events w) ≤ end → ((y : Side) → since y ≤ n) → Way capacity s w →
     Ordered capacity end since n s.queue (λ y. own y n w)
-ordered capacity end since n [] s l sooner f =
-    record { order = []; of_side = λ y. refl; legal = tt; keeps_time = tt; late = λ o i. absurd i }
+ordered capacity end since n [] s l sooner f = grind arith
 ordered capacity end since n (Happens e ∷ w) s l sooner (t, m, f) =
     let x = side_of e in
     let r = ordered capacity end (λ y. pick y x n (since y)) (suc n) w t (omega (arith, l)) (λ y. picked (λ z. z ≤ suc n) y x n (since y) (λ is. omega arith) (λ not. omega (arith, sooner y))) f in

@@ -49,9 +49,7 @@ last_event_marks :
     ((s t : Point) → CanLeadTo capacity h s → Leads capacity s (Happens e) t → P t) →
     (marks : List Mark) (t : Point) → events_among marks ≡ h ++ e ∷ [] → LeadTo capacity marks t → P t
 last_event_marks capacity h e P stays step [] t f l = absurd (omega (arith, ap length f, length-append h (e ∷ [])))
-last_event_marks capacity h e P stays step (Happens x ∷ marks) t f (s, l, m) =
-    let (before, last) = same_last (events_among marks) h x e f in
-    step s t (record { marks = marks; events = before; lead = l }) (subst (λ z. Leads capacity s (Happens z) t) last m)
+last_event_marks capacity h e P stays step (Happens x ∷ marks) t f (s, l, m) = grind (arith, same_last)
 last_event_marks capacity h e P stays step (Effect d ∷ marks) t f (s, l, m) = stays s t d (last_event_marks capacity h e P stays step marks s f l) m
 
 -- after one more event
@@ -66,5 +64,4 @@ one_less capacity h e (t, r) = last_event capacity h e (λ z. IsLinearizable cap
 -- and so after each prefix
 pub beginning : (capacity : Capacity) (h rest : List Event) → IsLinearizable capacity (h ++ rest) → IsLinearizable capacity h
 beginning capacity h [] l = subst (IsLinearizable capacity) (append-nil h) l
-beginning capacity h (e ∷ rest) l =
-    one_less capacity h e (beginning capacity (h ++ e ∷ []) rest (subst (IsLinearizable capacity) (sym (append_assoc h (e ∷ []) rest)) l))
+beginning capacity h (e ∷ rest) l = search (arith, one_less, append_assoc, beginning capacity (h ++ e ∷ []) rest (subst (IsLinearizable capacity) (sym (append_assoc h (e ∷ []) rest)) l))

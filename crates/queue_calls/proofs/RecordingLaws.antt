@@ -43,12 +43,7 @@ front_same l m a b one other e =
 first_ones : (before all : List Line) (rest : List ℕ) → All IsOfFormat before → All IsOfFormat all → lines_text before ++ rest ≡ lines_text all
     → (more : List Line) × (all ≡ before ++ more) × (rest ≡ lines_text more)
 first_ones [] all rest is are e = (all, refl, e)
-first_ones (l ∷ before) [] rest is are e =
-    let some : length ((text_of l ++ lines_text before) ++ rest) ≡ 0 = ap length e in
-    let one : length ((text_of l ++ lines_text before) ++ rest) ≡ length (text_of l ++ lines_text before) + length rest = length-append (text_of l ++ lines_text before) rest in
-    let two : length (text_of l ++ lines_text before) ≡ length (text_of l) + length (lines_text before) = length-append (text_of l) (lines_text before) in
-    let three : length (text_of l) ≡ length (line_text l.word l.numbers) + 1 = length-append (line_text l.word l.numbers) (10 ∷ []) in
-    absurd (omega (arith, some, one, two, three))
+first_ones (l ∷ before) [] rest is are e = grind (arith, length, length-append)
 first_ones (l ∷ before) (m ∷ all) rest is are e =
     let same = front_same l m (lines_text before ++ rest) (lines_text all) (All-head IsOfFormat l before is) (All-head IsOfFormat m all are) (sym (append_assoc (text_of l) (lines_text before) rest) ∙ e) in
     let later = first_ones before all rest (All-tail IsOfFormat l before is) (All-tail IsOfFormat m all are) same.1 in
@@ -56,11 +51,7 @@ first_ones (l ∷ before) (m ∷ all) rest is are e =
 
 no_lines : (lines : List Line) → [] ≡ lines_text lines → lines ≡ []
 no_lines [] e = refl
-no_lines (l ∷ lines) e =
-    let whole : length (text_of l ++ lines_text lines) ≡ length (text_of l) + length (lines_text lines) = length-append (text_of l) (lines_text lines) in
-    let one : length (text_of l) ≡ length (line_text l.word l.numbers) + 1 = length-append (line_text l.word l.numbers) (10 ∷ []) in
-    let none : 0 ≡ length (text_of l ++ lines_text lines) = ap length e in
-    absurd (omega (arith, whole, one, none))
+no_lines (l ∷ lines) e = grind (arith, length, length-append)
 
 -- ---- one recording
 

@@ -39,51 +39,30 @@ lines_more before l = flat_map-append text_of before (l ∷ []) ∙ ap (λ (t : 
 -- a line has a byte
 many_bytes : (lines : List Line) → length lines ≤ length (lines_text lines)
 many_bytes [] = omega arith
-many_bytes (l ∷ lines) =
-    let whole : length (lines_text (l ∷ lines)) ≡ length (text_of l) + length (lines_text lines) = length-append (text_of l) (lines_text lines) in
-    let one : length (text_of l) ≡ length (line_text l.word l.numbers) + 1 = length-append (line_text l.word l.numbers) (10 ∷ []) in
-    omega (arith, whole, one, many_bytes lines)
+many_bytes (l ∷ lines) = grind (arith, length, length-append, many_bytes lines)
 
 pub too_long : (before : List Line) (bytes more : List ℕ) → bytes ≡ lines_text before ++ more → 2 ^ 64 - 1 ≤ length before → 2 ^ 64 - 1 ≤ length bytes
-too_long before bytes more text long =
-    let whole : length bytes ≡ length (lines_text before) + length more = ap length text ∙ length-append (lines_text before) more in
-    omega (arith, whole, long, many_bytes before)
+too_long before bytes more text long = grind (arith, length, length-append, many_bytes)
 
 -- ---- a line that ends
 
 -- the bytes of a line that ends, after lines
 pub ended_text : (before : List Line) (bytes cut end more : List ℕ) → bytes ≡ lines_text before ++ cut → bytes ++ (end ++ 10 ∷ more) ≡ lines_text before ++ ((cut ++ end) ++ 10 ∷ more)
-ended_text before bytes cut end more text =
-    ap (λ (t : List ℕ). t ++ (end ++ 10 ∷ more)) text ∙ append_assoc (lines_text before) cut (end ++ 10 ∷ more)
-    ∙ ap (λ (t : List ℕ). lines_text before ++ t) (sym (append_assoc cut end (10 ∷ more)))
+ended_text before bytes cut end more text = grind (arith, append_assoc)
 
 -- no byte of a line
 none_begins : (is_first : Bool) (begun : ℕ) (cut : List ℕ) → begun ≡ 0 → cut ≡ [] → KeepsBeginning is_first begun cut
-none_begins is_first begun cut zero none =
-    subst (λ (n : ℕ). KeepsBeginning is_first n cut) (sym zero)
-    (subst (λ (b : List ℕ). KeepsBeginning is_first 0 b) (sym none) (record { within = omega arith; begins = nothing_begun is_first; few = omega arith }))
+none_begins is_first begun cut zero none = grind (arith, nothing_begun)
 
 -- nothing was read
 pub nothing_read : {S O T N B : Type 0} (offered : O → List Offered) (last : T → List Taken) (bytes_of : B → List ℕ) (new : RecordingIn S O T N B) → bytes_of new.cut ≡ [] → new.begun ≡ 0 → HasLines offered last new.lines [] → HasRead offered last bytes_of new []
-nothing_read offered last bytes_of new none zero lines = record {
-  ended = [];
-  text = sym none;
-  no_feed = subst HasNoFeed (sym none) (All-nil (λ b. b ≢ 10));
-  lines = lines;
-  begins = none_begins true new.begun (bytes_of new.cut) zero none;
-}
+nothing_read offered last bytes_of new none zero lines = grind (arith, All-nil, none_begins)
 
 -- a line was read, and no byte of another one
 pub line_ended : {S O T N B : Type 0} (offered : O → List Offered) (last : T → List Taken) (bytes_of : B → List ℕ) (old new : RecordingIn S O T N B) (bytes end : List ℕ) (has : HasRead offered last bytes_of old bytes) (l : Line)
     → bytes_of old.cut ++ end ≡ line_text l.word l.numbers → bytes_of new.cut ≡ [] → new.begun ≡ 0 → HasLines offered last new.lines (has.ended ++ l ∷ []) → HasRead offered last bytes_of new (bytes ++ end ++ 10 ∷ [])
-line_ended offered last bytes_of old new bytes end has l is none zero lines = record {
-  ended = has.ended ++ l ∷ [];
-  text = append_assoc bytes end (10 ∷ []) ∙ ended_text has.ended bytes (bytes_of old.cut) end [] has.text ∙ ap (λ (t : List ℕ). lines_text has.ended ++ (t ++ 10 ∷ [])) is ∙ sym (lines_more has.ended l)
-      ∙ sym (append-nil (lines_text (has.ended ++ l ∷ []))) ∙ ap (λ (t : List ℕ). lines_text (has.ended ++ l ∷ []) ++ t) (sym none);
-  no_feed = subst HasNoFeed (sym none) (All-nil (λ b. b ≢ 10));
-  lines = lines;
-  begins = none_begins (length (has.ended ++ l ∷ []) == 0) new.begun (bytes_of new.cut) zero none;
-}
+line_ended offered last bytes_of old new bytes end has l is none zero lines =
+    grind (arith, append_assoc bytes end (10 ∷ []), ended_text has.ended bytes (bytes_of old.cut) end, lines_more has.ended l, append-nil (lines_text (has.ended ++ l ∷ [])), All-nil, none_begins (length (has.ended ++ l ∷ []) == 0) new.begun (bytes_of new.cut) zero none, length (has.ended ++ l ∷ []))
 
 -- ---- refusals
 
@@ -120,20 +99,7 @@ cut_refused before bytes cut number text are none is there = record {
 
 pub found : {S O T N B : Type 0} (offered : O → List Offered) (last : T → List Taken) (limit : ℕ) (hearing : Hearing S O T N B) (is_cut : Bool) (finding : CallsFinding) (ended : List Line) (bytes cut : List ℕ) → bytes ≡ lines_text ended ++ cut → cut ≡ [] → AreLines ended → HeardLines offered last hearing is_cut ended
     → ((capacity : Capacity) (events : List Event) → HasHeard offered last hearing capacity events → IsFoundWithin limit capacity events finding) → IsFindingWithin limit bytes finding
-found offered last limit hearing is_cut finding ended bytes cut text none are heard finds = (
-  capacity_told heard.0,
-  events_told Nothing heard.1,
-  record {
-    is_cut = is_cut;
-    first = heard.0;
-    further = heard.1;
-    text = text ∙ ap (λ (t : List ℕ). lines_text ended ++ t) none ∙ append-nil (lines_text ended) ∙ ap lines_text heard.2;
-    are = subst AreLines heard.2 are;
-    tells_capacity = refl;
-    tells_events = refl;
-  },
-  finds (capacity_told heard.0) (events_told Nothing heard.1) heard.4,
-)
+found offered last limit hearing is_cut finding ended bytes cut text none are heard finds = grind (arith, append-nil)
 
 -- the first fault of lines that have ended, or none
 fault_is :

@@ -48,25 +48,17 @@ pub lacks_more : (capacity : Capacity) (before count most : ℕ) (why : Bool) �
 lacks_more capacity before count most why lacks says l = lacks_room capacity before (suc count) (omega arith) (subst (λ z. MayLack capacity before z) (short_more why count (most - count) says (omega (arith, l))) lacks)
 
 pub may_lack_more : (capacity : Capacity) (before count most : ℕ) (why : Bool) → (why ≡ true → count < most → LacksRoom capacity before (suc count)) → MayLack capacity before (short_of why count (most - count))
-may_lack_more capacity before count most why f = elim (short_cases why count (most - count)) [
-  | inl none ↦ inl none
-  | inr (says, l, e) ↦ inr (subst (λ z. LacksRoom capacity before z) (sym e) (f says (omega (arith, l))))
-]
+may_lack_more capacity before count most why f = grind (arith, short_cases)
 
 pub fewer_told :
     (before : ℕ) (ended : Bool) (items : List ℕ) (most : ℕ) (why : Bool) → FoundFewer before ended (length items) (short_of why (length items) (most - length items)) → why ≡ true →
     length items < most → before ≤ length items
-fewer_told before ended items most why found says l =
-    let more : short_of why (length items) (most - length items) ≡ suc (length items) = short_more why (length items) (most - length items) says (omega (arith, l)) in
-    let (less, _) = found (omega (arith, more)) in omega (arith, less, more)
+fewer_told before ended items most why found says l = grind (arith, length, short_more)
 
 pub found_fewer :
     (before : ℕ) (ended : Bool) (items : List ℕ) (most : ℕ) (why : Bool) → 0 < length items → (why ≡ true → length items < most → before ≤ length items) →
     FoundFewer before ended (length items) (short_of why (length items) (most - length items))
-found_fewer before ended items most why some f l = elim (short_cases why (length items) (most - length items)) [
-  | inl none ↦ absurd (omega (arith, l, none))
-  | inr (says, m, e) ↦ (let less = f says (omega (arith, m)) in (omega (arith, less, e), (λ none. absurd (omega (arith, some, none)))))
-]
+found_fewer before ended items most why some f l = grind (arith, short_cases, length)
 
 -- ---- what is reported after them
 

@@ -26,42 +26,28 @@ module _ (capacity : Capacity) (past : List Event) (k : Kept) (f : SidesFit past
   take_is after it e same = (ap (λ (z : Kept). has_put z.put) e ∙ (ap has_put same ∙ f.0), ap (λ (z : Kept). has_take z.take) e)
 
   sides_step : (event : Event) (after : Kept) → Counts capacity k event after → SidesFit (event ∷ past) after
-  sides_step (PutBegin items) after (free, some, begins) = elim begins [
-    | inl b ↦ put_is after _ b.1 refl
-    | inr b ↦ put_is after _ b.1 refl
-  ]
-  sides_step (PutEnd reply) after ends = elim ends [
-    | inl (n, inside, is, open', within, lacks, fits) ↦ put_is after _ fits.1 refl
-    | inr (n, is, none, e) ↦ put_is after _ e refl
-  ]
+  sides_step (PutBegin items) after (free, some, begins) = grind (arith, put_is)
+  sides_step (PutEnd reply) after ends = grind (arith, put_is)
   sides_step CloseBegin after (free, e) = put_is after _ e refl
   sides_step CloseEnd after (again, is, e) = put_is after _ e refl
   sides_step (TakeBegin wanted) after (rests, some, e) = take_is after _ e refl
-  sides_step (TakeEnd reply) after (wanted, before, closed, is, ends) = elim ends [
-    | inl (open', within, found, next, fits) ↦ take_is after _ fits.1 refl
-    | inr (shuts, none, begun, e) ↦ take_is after _ e refl
-  ]
+  sides_step (TakeEnd reply) after (wanted, before, closed, is, ends) = grind (arith, take_is)
 
 sides_behind : (capacity : Capacity) (past events : List Event) (k last : Kept) → SidesFit past k → CountTo capacity k events last → SidesFit (reverse events ++ past) last
 sides_behind capacity past [] k last f e = let F : Kept → Type 0 = λ z. SidesFit past z in subst F (sym e) f
 sides_behind capacity past (first ∷ events) k last f (next, c, more) =
-    let F : List Event → Type 0 = λ z. SidesFit z last in
-    subst F (sym (turned_behind first events past)) (sides_behind capacity (first ∷ past) events next last (sides_step capacity past k f first next c) more)
+    grind (arith, turned_behind, sides_step, sides_behind capacity (first ∷ past) events next last (sides_step capacity past k f first next c) more)
 
 -- the last event that was counted
 pub last_count :
     (capacity : Capacity) (k : Kept) (events : List Event) (event : Event) (last : Kept) → CountTo capacity k (events ++ event ∷ []) last →
     (before : Kept) × CountTo capacity k events before × Counts capacity before event last
 last_count capacity k [] event last (next, c, e) = (k, refl, (let F : Kept → Type 0 = λ z. Counts capacity k event z in subst F (sym e) c))
-last_count capacity k (first ∷ events) event last (next, c, more) =
-    let (before, there, now) = last_count capacity next events event last more in (before, (next, c, there), now)
+last_count capacity k (first ∷ events) event last (next, c, more) = grind (arith, last_count capacity next events event last more)
 
 -- a put that ends stored no more than it offered
 within : (capacity : Capacity) (past : List Event) (k : Kept) (a : Agrees past k) (event : Event) (after : Kept) → Counts capacity k event after → StoresWithin event past
-within capacity past k a (PutEnd reply) after ends = elim ends [
-  | inl (n, inside, is, open', fits, lacks, e) ↦ omega (arith, few (λ z. z) 0 reply n refl fits, ap offered_by is, offered_is past k a)
-  | inr (n, is, none, e) ↦ omega (arith, none_passed reply none)
-]
+within capacity past k a (PutEnd reply) after ends = grind (arith, few, offered_is, none_passed)
 within capacity past k a _ after c = tt
 
 module _ (capacity : Capacity) (events : List Event) (k : Kept) (proper : IsProper capacity) (counted : CountTo capacity (kept [] Free Rests false) events k) where

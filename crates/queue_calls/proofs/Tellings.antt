@@ -32,43 +32,23 @@ none_small = All-nil (λ n. n < 2 ^ 64)
 -- a put that stored this many: if it says why they are no more, the line has the number only if they are fewer than it offered
 stored_tells : (count offered : ℕ) (why : Bool) → 0 < count → count ≤ offered → AreSmall (count ∷ []) → Tells (begun.Put offered) (line_of (begun.Put offered) (PutEnd (Passed count why))) (PutEnd (Passed count why))
 stored_tells count offered false some most small = (refl, (some, small))
-stored_tells count offered true some most small =
-    elim (nat_lt count offered) as (λ t. nat_lt count offered ≡ t → Tells (begun.Put offered) (line word.Stored (if t then count ∷ [] else [])) (PutEnd (Passed count true))) [
-      | true ↦ λ fewer. (ap (λ (t : Bool). Some (PutEnd (Passed (if t then count else 0) true))) fewer, (some, small))
-      | false ↦ λ whole.
-          let least : offered ≤ count = ltb-false count offered whole in
-          let all : offered ≡ count = omega (arith, most, least) in
-          (ap (λ (n : ℕ). Some (PutEnd (Passed n true))) all, (tt, none_small))
-    ] refl
+stored_tells count offered true some most small = grind (arith, nat_lt, ltb-false, none_small)
 
 -- a take: the line has the number it asks for only if that is more than one
 take_tells : (b : Begun) (wanted : ℕ) → 0 < wanted → AreSmall (wanted ∷ []) → Tells b (line_of b (TakeBegin wanted)) (TakeBegin wanted)
-take_tells b wanted some small =
-    elim (nat_lt 1 wanted) as (λ t. nat_lt 1 wanted ≡ t → Tells b (line word.Take (if t then wanted ∷ [] else [])) (TakeBegin wanted)) [
-      | true ↦ λ several. (refl, (ltb-true 1 wanted several, small))
-      | false ↦ λ single.
-          let most : wanted ≤ 1 = ltb-false 1 wanted single in
-          let one : 1 ≡ wanted = omega (arith, some, most) in
-          (ap (λ (n : ℕ). Some (TakeBegin n)) one, (tt, none_small))
-    ] refl
+take_tells b wanted some small = grind (arith, nat_lt, ltb-true, ltb-false, none_small)
 
 -- the line of an event in turn has that event
 line_tells : (b : Begun) (event : Event) (s t : Sides) → BeganLast b s.producer → MovesSides s event t → AreSmall (numbers_in event) → Tells b (line_of b event) event
 line_tells b (PutBegin []) s t began turn small = absurd (omega (arith, turn.1))
 line_tells b (PutBegin (item ∷ items)) s t began turn small = (refl, (tt, small))
-line_tells b (PutEnd (Passed count why)) s t began turn small =
-    let put : b ≡ begun.Put turn.0 = subst (BeganLast b) turn.1 began in
-    subst (λ (x : Begun). Tells x (line_of x (PutEnd (Passed count why))) (PutEnd (Passed count why))) (sym put) (stored_tells count turn.0 why turn.2.0 turn.2.1 small)
+line_tells b (PutEnd (Passed count why)) s t began turn small = grind (arith, stored_tells)
 line_tells b (PutEnd Lacked) s t began turn small = (refl, (tt, none_small))
 line_tells b (PutEnd Short) s t began turn small = (refl, (tt, none_small))
 line_tells b (PutEnd Nothing) s t began turn small = (refl, (tt, none_small))
-line_tells b (PutEnd Shut) s t began turn small =
-    let put : b ≡ begun.Put turn.0 = subst (BeganLast b) turn.1 began in
-    subst (λ (x : Begun). Tells x (line_of x (PutEnd Shut)) (PutEnd Shut)) (sym put) (refl, (tt, none_small))
+line_tells b (PutEnd Shut) s t began turn small = grind (arith, none_small)
 line_tells b CloseBegin s t began turn small = (refl, (tt, none_small))
-line_tells b CloseEnd s t began turn small =
-    let close : b ≡ begun.Close = subst (BeganLast b) turn.0 began in
-    subst (λ (x : Begun). Tells x (line_of x CloseEnd) CloseEnd) (sym close) (refl, (tt, none_small))
+line_tells b CloseEnd s t began turn small = grind (arith, none_small)
 line_tells b (TakeBegin wanted) s t began turn small = take_tells b wanted turn.1 small
 line_tells b (TakeEnd (Passed [] why)) s t began turn small = absurd (omega (arith, turn.2))
 line_tells b (TakeEnd (Passed (item ∷ items) true)) s t began turn small = (refl, (tt, small))

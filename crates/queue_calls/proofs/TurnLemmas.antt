@@ -110,62 +110,27 @@ module _ (s : Sides) (p p' : Producer) (c c' : Consumer) (hp : HasPut p s.produc
   left_c d call e f = subst (λ z. HasTake z call) (sym e) f
 
   in_turn : (e : Event) → ProducerStep p (Happens e) p' → ConsumerStep c (Happens e) c' → Next e s p' c'
-  in_turn (PutBegin items) (a, some, b) f =
-      by_put (PutBegin items) (APut (length items)) (idle_has s.producer (has_p Idle a), some, refl) (left_p (Putting 0 0 items) (APut (length items)) b (omega arith)) f
-  in_turn (PutEnd reply) (was, b) f =
-      let (n, is, within) : (n : ℕ) × (s.producer ≡ APut n) × CanReply reply (passed 0 reply) n = elim was [
-        | inl (o, left, w, a) ↦ (passed 0 reply + length left, putting_has (lacked_by reply (passed 0 reply) (length left)) (passed 0 reply) left s.producer (has_p (Putting (lacked_by reply (passed 0 reply) (length left)) (passed 0 reply) left) a), w)
-        | inr (o, a) ↦ (let (n, g) = shut_has s.producer (has_p FoundShut a) in (n, g, shut_within reply (passed 0 reply) n o))
-      ] in
-      by_put (PutEnd reply) NoCall (n, is, within, refl) (left_p Idle NoCall b tt) f
+  in_turn (PutBegin items) (a, some, b) f = grind (arith, by_put, length, idle_has, has_p, left_p)
+  in_turn (PutEnd reply) (was, b) f = grind (arith, length, putting_has, has_p, shut_has, shut_within, by_put, left_p)
   in_turn CloseBegin (a, b) f = by_put CloseBegin AClose (idle_has s.producer (has_p Idle a), refl) (left_p (Closing false) AClose b tt) f
   in_turn CloseEnd (a, b) f = by_put CloseEnd NoCall (closing_has true s.producer (has_p (Closing true) a), refl) (left_p Idle NoCall b tt) f
-  in_turn (TakeBegin wanted) f (a, some, b) =
-      by_take (TakeBegin wanted) (ATake wanted) (resting_has s.consumer (has_c Resting a), some, refl) (left_c (Taking 0 [] wanted) (ATake wanted) b (omega arith)) f
-  in_turn (TakeEnd reply) f (was, b) =
-      let took : List ℕ = passed [] reply in
-      let (n, is, within) : (n : ℕ) × (s.consumer ≡ ATake n) × CanReply reply (length took) n = elim was [
-        | inl (o, left, w, a) ↦ (length took + left, taking_has (lacked_by reply (length took) left) took left s.consumer (has_c (Taking (lacked_by reply (length took) left) took left) a), w)
-        | inr (o, a) ↦ (let (n, g) = told_has s.consumer (has_c FoundClosed a) in (n, g, shut_within reply (length took) n o))
-      ] in
-      by_take (TakeEnd reply) NoCall (n, is, within, refl) (left_c Resting NoCall b tt) f
+  in_turn (TakeBegin wanted) f (a, some, b) = grind (arith, by_take, resting_has, has_c, left_c)
+  in_turn (TakeEnd reply) f (was, b) = grind (arith, length, taking_has, has_c, told_has, shut_within, by_take, left_c)
 
   -- an operation leaves each side's call unchanged
   same_sides : (d : Operation) → ProducerStep p (Effect d) p' → ConsumerStep c (Effect d) c' → HasPut p' s.producer × HasTake c' s.consumer
-  same_sides (Enqueue item) (lacked, done, left, a, b) f =
-      let g = putting_has lacked done (item ∷ left) s.producer (has_p (Putting lacked done (item ∷ left)) a) in
-      let G : UnderWay → Type 0 = λ z. HasPut (Putting lacked (suc done) left) z in
-      (left_p _ s.producer b (subst G (sym g) (omega arith)), left_c c s.consumer f hc)
-  same_sides (FindNoRoom count) (items, a, b) f =
-      let g = putting_has 0 0 items s.producer (has_p (Putting 0 0 items) a) in
-      let G : UnderWay → Type 0 = λ z. HasPut (Putting count 0 items) z in
-      (left_p _ s.producer b (subst G (sym g) refl), left_c c s.consumer f hc)
-  same_sides FindShut (items, a, b) f =
-      let g = putting_has 0 0 items s.producer (has_p (Putting 0 0 items) a) in
-      let G : UnderWay → Type 0 = λ z. HasPut FoundShut z in
-      (left_p _ s.producer b (subst G (sym g) tt), left_c c s.consumer f hc)
-  same_sides Close (a, b) f =
-      let g = closing_has false s.producer (has_p (Closing false) a) in
-      let G : UnderWay → Type 0 = λ z. HasPut (Closing true) z in
-      (left_p _ s.producer b (subst G (sym g) tt), left_c c s.consumer f hc)
-  same_sides (Dequeue item) f (lacked, took, left, a, b) =
-      let g = taking_has lacked took (suc left) s.consumer (has_c (Taking lacked took (suc left)) a) in
-      let G : UnderWay → Type 0 = λ z. HasTake (Taking lacked (took ++ item ∷ []) left) z in
-      (left_p p s.producer f hp, left_c _ s.consumer b (subst G (sym g) (omega (arith, length-append took (item ∷ [])))))
-  same_sides (FindFewer count) f (wanted, a, b) =
-      let g = taking_has 0 [] wanted s.consumer (has_c (Taking 0 [] wanted) a) in
-      let G : UnderWay → Type 0 = λ z. HasTake (Taking count [] wanted) z in
-      (left_p p s.producer f hp, left_c _ s.consumer b (subst G (sym g) refl))
-  same_sides FindClosed f (wanted, a, b) =
-      let g = taking_has 0 [] wanted s.consumer (has_c (Taking 0 [] wanted) a) in
-      let G : UnderWay → Type 0 = λ z. HasTake FoundClosed z in
-      (left_p p s.producer f hp, left_c _ s.consumer b (subst G (sym g) tt))
+  same_sides (Enqueue item) (lacked, done, left, a, b) f = grind (arith, putting_has, has_p, left_p, left_c)
+  same_sides (FindNoRoom count) (items, a, b) f = grind (arith, putting_has, has_p, left_p, left_c)
+  same_sides FindShut (items, a, b) f = grind (arith, putting_has, has_p, left_p, left_c)
+  same_sides Close (a, b) f = grind (arith, closing_has, has_p, left_p, left_c)
+  same_sides (Dequeue item) f (lacked, took, left, a, b) = grind (arith, taking_has, has_c, left_p, left_c, length-append)
+  same_sides (FindFewer count) f (wanted, a, b) = grind (arith, taking_has, has_c, left_p, left_c)
+  same_sides FindClosed f (wanted, a, b) = grind (arith, taking_has, has_c, left_p, left_c)
 
 marks_in_turn :
     (capacity : Capacity) (marks : List Mark) (t : Point) → LeadTo capacity marks t →
     (s : Sides) × Turns (sides NoCall NoCall) (events_among marks) s × HasPut t.producer s.producer × HasTake t.consumer s.consumer
-marks_in_turn capacity [] t l =
-    (sides NoCall NoCall, refl, subst (λ (z : Point). HasPut z.producer NoCall) (sym l) tt, subst (λ (z : Point). HasTake z.consumer NoCall) (sym l) tt)
+marks_in_turn capacity [] t l = grind arith
 marks_in_turn capacity (Happens e ∷ marks) t (u, l, m) =
     let (s, turns, hp, hc) = marks_in_turn capacity marks u l in
     let n : Next e s t.producer t.consumer = in_turn s u.producer t.producer u.consumer t.consumer hp hc e m.producer m.consumer in
@@ -177,6 +142,4 @@ marks_in_turn capacity (Effect d ∷ marks) t (u, l, m) =
 
 -- a history that is linearizable is well formed
 pub linearizable_in_turn : (capacity : Capacity) (h : List Event) → IsLinearizable capacity h → CallsAreInTurn h
-linearizable_in_turn capacity h (t, r) =
-    let (s, turns, hp, hc) = marks_in_turn capacity r.marks t r.lead in
-    (s, subst (λ z. Turns (sides NoCall NoCall) z s) r.events turns)
+linearizable_in_turn capacity h (t, r) = grind (arith, marks_in_turn)

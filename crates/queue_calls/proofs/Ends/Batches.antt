@@ -30,10 +30,7 @@ module _ (capacity : Capacity) (h : List Event) where
   pub enqueues :
       (c : Consumer) (lacked : ℕ) (done left : List ℕ) (items : List ℕ) (n : ℕ) → MayHold capacity (length items + length done) →
       Leads (point (queue items false) (Putting lacked n (done ++ left)) c) → Leads (point (queue (items ++ done) false) (Putting lacked (n + length done) left) c)
-  enqueues c lacked [] left items n l r =
-      let none : n ≡ n + 0 = omega arith in
-      subst (λ z. Leads (point (queue (items ++ []) false) (Putting lacked z left) c)) none
-      (subst (λ z. Leads (point (queue z false) (Putting lacked n left) c)) (sym (append-nil items)) r)
+  enqueues c lacked [] left items n l r = grind (arith, append-nil)
   enqueues c lacked (x ∷ done) left items n l r =
       let more : suc n + length done ≡ n + length (x ∷ done) = omega arith in
       let next : Leads (point (queue (items ++ x ∷ []) false) (Putting lacked (suc n) (done ++ left)) c) =
@@ -52,10 +49,7 @@ module _ (capacity : Capacity) (h : List Event) where
   pub dequeues :
       (closed : Bool) (p : Producer) (lacked : ℕ) (took done items : List ℕ) (left : ℕ) →
       Leads (point (queue (done ++ items) closed) p (Taking lacked took (length done + left))) → Leads (point (queue items closed) p (Taking lacked (took ++ done) left))
-  dequeues closed p lacked took [] items left r =
-      let none : 0 + left ≡ left = omega arith in
-      subst (λ z. Leads (point (queue items closed) p (Taking lacked z left))) (sym (append-nil took))
-      (subst (λ z. Leads (point (queue items closed) p (Taking lacked took z))) none r)
+  dequeues closed p lacked took [] items left r = grind (arith, append-nil)
   dequeues closed p lacked took (x ∷ done) items left r =
       let more : length (x ∷ done) + left ≡ suc (length done + left) = omega arith in
       let r' : Leads (point (queue (x ∷ (done ++ items)) closed) p (Taking lacked took (suc (length done + left)))) =

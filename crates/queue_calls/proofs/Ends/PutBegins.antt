@@ -163,21 +163,14 @@ module _ (capacity : Capacity) (h : List Event) (inside items : List ℕ) (take'
 
   late_begun : (q : Queue) (c : Consumer) → inside ≡ taken_by c ++ (q.items ++ []) → MayHold capacity (length q.items) → q.closed ≡ true → FitsTake take' c q → Leading (point q (Putting 0 0 items) c)
   late_begun q c e l closed f =
-      happens capacity h (point q Idle c) (point q (Putting 0 0 items) c) (PutBegin items)
-      (k.sound (point q Idle c) (record { items = e; room = l; producer = closed; consumer = f }) tt)
-      (record { queue = refl; producer = (refl, some, refl); consumer = refl })
+      grind (arith, happens capacity h (point q Idle c) (point q (Putting 0 0 items) c) (PutBegin items) (k.sound (point q Idle c) (record { items = e; room = l; producer = closed; consumer = f }) tt) (record { queue = refl; producer = (refl, some, refl); consumer = refl }))
 
   late_points :
       (q : Queue) (p : Producer) (c : Consumer) → Describes capacity inside (Late (length items)) take' true (point q p c) → TellsPoint items (Late (length items)) p → Leading (point q p c)
   late_points q Idle c d told = absurd d.producer
-  late_points q (Putting lacked m left) c d told =
-      let (none, nothing, closed) = d.producer in
-      subst (λ z. Leading (point q (Putting z m left) c)) (sym none)
-      (subst (λ z. Leading (point q (Putting 0 z left) c)) (sym nothing)
-      (subst (λ z. Leading (point q (Putting 0 0 z) c)) (sym told) (late_begun q c d.items d.room closed d.consumer)))
+  late_points q (Putting lacked m left) c d told = grind (arith, late_begun)
   late_points q FoundShut c d told =
-      goes capacity (h ++ PutBegin items ∷ []) (point q (Putting 0 0 items) c) (point q FoundShut c) FindShut (late_begun q c d.items d.room d.producer d.consumer)
-      (record { queue = (d.producer, refl); producer = (items, refl, refl); consumer = refl })
+      grind (arith, goes capacity (h ++ PutBegin items ∷ []) (point q (Putting 0 0 items) c) (point q FoundShut c) FindShut (late_begun q c d.items d.room d.producer d.consumer) (record { queue = (d.producer, refl); producer = (items, refl, refl); consumer = refl }), late_begun q c d.items d.room d.producer d.consumer)
   late_points q (Closing done) c d told = absurd d.producer
 
   pub late_begin : Accepts capacity h (PutBegin items) inside (Late (length items)) take' true

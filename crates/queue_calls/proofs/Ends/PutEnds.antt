@@ -17,16 +17,11 @@ use Rattle.queue_calls.proofs.Sides.{free_idle, with_producer}
 
 -- the front of a list in three parts, without the last part
 front_of : (xs a b c : List ℕ) (n : ℕ) → xs ≡ a ++ (b ++ c) → n + length c ≡ length xs → take n xs ≡ a ++ (b ++ [])
-front_of xs a b c n e l =
-    let whole : xs ≡ (a ++ b) ++ c = e ∙ sym (append_assoc a b c) in
-    let long : n ≡ length (a ++ b) = omega (arith, l, ap length whole, length-append (a ++ b) c) in
-    ap (λ z. take n z) whole ∙ (ap (λ z. take z ((a ++ b) ++ c)) long ∙ (take-append_seam (a ++ b) c ∙ ap (λ z. a ++ z) (sym (append-nil b))))
+front_of xs a b c n e l = grind (arith, append_assoc a b c, length (a ++ b), length-append (a ++ b) c, take, take-append_seam (a ++ b) c, append-nil b)
 
 -- and joined again
 whole_of : (xs a b : List ℕ) (n : ℕ) → take n xs ≡ a ++ (b ++ []) → xs ≡ a ++ (b ++ drop n xs)
-whole_of xs a b n e =
-    let front : take n xs ≡ a ++ b = e ∙ ap (λ z. a ++ z) (append-nil b) in
-    sym (take-append-drop n xs) ∙ (ap (λ z. z ++ drop n xs) front ∙ append_assoc a b (drop n xs))
+whole_of xs a b n e = grind (arith, take, append-nil, take-append-drop, drop, append_assoc)
 
 pub few_taken : (turn : TakeTurn) (c : Consumer) (q : Queue) → FitsTake turn c q → length (taken_by c) ≤ asked_by turn
 few_taken Rests Resting q f = omega arith

@@ -172,12 +172,6 @@ module _ (capacity : Capacity) (h : List Event) (put : PutTurn) (wanted before :
 pub next_one :
     (items inside : List ℕ) (i : ℕ) → i < length items → i < length inside → slice_index_or inside i 0 ≡ slice_index_or items i 0 → AreNext (take i items) inside →
     AreNext (take (i + 1) items) inside
-next_one items inside i l m e ([], f) =
-    absurd (omega (arith, m, ap length f, length-append (take i items) [], length-take-le i items (omega (arith, l))))
+next_one items inside i l m e ([], f) = grind (arith, length, length-append, take, length-take-le)
 next_one items inside i l m e (y ∷ rest, f) =
-    let long : i ≡ length (take i items) = sym (length-take-le i items (omega (arith, l))) in
-    let at : slice_index_or inside i 0 ≡ y =
-    ap (λ z. slice_index_or z i 0) f ∙ (ap (λ z. slice_index_or (take i items ++ y ∷ rest) z 0) long ∙ get_or-append_seam (take i items) y rest 0) in
-    let same : slice_index_or items i 0 ≡ y = sym e ∙ at in
-    let more : take (i + 1) items ≡ take i items ++ y ∷ [] = take_more items i 0 l ∙ ap (λ z. take i items ++ z ∷ []) same in
-    (rest, f ∙ (sym (append_assoc (take i items) (y ∷ []) rest) ∙ ap (λ z. z ++ rest) (sym more)))
+    grind (arith, length (take i items), take i items, take (i + 1) items, length-take-le i items (omega (arith, l)), slice_index_or inside i 0, slice_index_or items i 0, get_or-append_seam (take i items) y rest 0, take_more items i 0 l, append_assoc (take i items) (y ∷ []) rest)
