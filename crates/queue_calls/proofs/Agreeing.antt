@@ -17,24 +17,19 @@ use Rattle.queue_calls.specs.declared.turns.TakeTurn.{TakeTurn}
 use Rattle.queue_calls.specs.declared.turns.TakeTurn.TheVariants.{Rests, Waits}
 
 pub both : (A : Type 0) (b : Bool) → b ≡ true → b ≡ false → A
-both A true e f = absurd cc
-both A false e f = absurd cc
+both A b e f = grind arith
 
 is_false : (b : Bool) → (b ≡ true → ⊥) → b ≡ false
-is_false true f = absurd (f refl)
-is_false false f = refl
+is_false b f = grind arith
 
 not_more : (b e : Bool) → (e ≡ true → b ≡ true) → b ≡ false → b ≡ e
-not_more b true f g = both (b ≡ true) b (f refl) g
-not_more b false f g = g
+not_more b e f g = grind (arith, both)
 
 one_of : (x y : Bool) → true ≡ (x || y) → (x ≡ true) ⊎ (y ≡ true)
-one_of true y e = inl refl
-one_of false y e = inr (sym e)
+one_of x y e = grind arith
 
 or_last : (x : Bool) → true ≡ (x || true)
-or_last true = refl
-or_last false = refl
+or_last x = grind arith
 
 pub ended_grows : (past : List Event) → has_ended (before_take past) ≡ true → has_ended past ≡ true
 ended_grows [] e = e
@@ -76,17 +71,13 @@ module _ (past : List Event) (k : Kept) (a : Agrees past k) where
 
   offered_fits :
       (put : PutTurn) → PutAgrees past put → offered_by put ≡ length (offers past)
-  offered_fits Free f = sym (ap length f.0)
-  offered_fits (Offers n inside) f = sym f.0
-  offered_fits (Late n) f = sym (ap length f.0)
-  offered_fits (Closes again) f = sym (ap length f.0)
+  offered_fits put f = grind (arith, length)
 
   pub offered_is : offered_by k.put ≡ length (offers past)
   offered_is = offered_fits k.put a.put_fits
 
   asked_fits : (turn : TakeTurn) → TakeAgrees past turn → asked_by turn ≡ wanted past
-  asked_fits Rests f = sym f
-  asked_fits (Waits wants inside closed) f = sym f.0
+  asked_fits turn f = grind arith
 
   pub asked_is : asked_by k.take ≡ wanted past
   asked_is = asked_fits k.take a.take_fits
@@ -99,10 +90,7 @@ module _ (past : List Event) (k : Kept) (a : Agrees past k) where
 
   offers_fit :
       (put : PutTurn) → PutAgrees past put → has_begun past ≡ true → offers past ≡ []
-  offers_fit Free f g = f.0
-  offers_fit (Offers n inside) f g = both (offers past ≡ []) (has_begun past) g f.3
-  offers_fit (Late n) f g = f.0
-  offers_fit (Closes again) f g = f.0
+  offers_fit put f g = grind (arith, both)
 
   -- after a close nothing is offered that may be stored
   pub offers_none : has_begun past ≡ true → offers past ≡ []
@@ -183,19 +171,13 @@ module _ (past : List Event) (k : Kept) (a : Agrees past k) where
   begun_fits :
       (put : PutTurn) (shut : Bool) → PutAgrees past put →
       shut ≡ (has_ended past || has_told past) → has_closed put shut ≡ true → has_begun past ≡ true
-  begun_fits Free shut f e g = elim (one_of (has_ended past) (has_told past) (sym g ∙ e)) [ inl h ↦ a.ended h | inr h ↦ (a.told h).1 ]
-  begun_fits (Offers n inside) shut f e g = elim (one_of (has_ended past) (has_told past) (sym g ∙ e)) [ inl h ↦ a.ended h | inr h ↦ (a.told h).1 ]
-  begun_fits (Late n) shut f e g = f.3
-  begun_fits (Closes again) shut f e g = f.1
+  begun_fits put shut f e g = grind (arith, one_of)
 
   pub begun_is : has_closed k.put k.shut ≡ true → has_begun past ≡ true
   begun_is g = begun_fits k.put k.shut a.put_fits a.shut g
 
   closing_fits : (put : PutTurn) (shut : Bool) → PutAgrees past put → shut ≡ (has_ended past || has_told past) → has_begun past ≡ true → has_closed put shut ≡ true
-  closing_fits Free shut f e g = e ∙ or_left (has_ended past) (has_told past) (sym f.1 ∙ g)
-  closing_fits (Offers n inside) shut f e g = both (shut ≡ true) (has_begun past) g f.3
-  closing_fits (Late n) shut f e g = e ∙ or_left (has_ended past) (has_told past) f.2
-  closing_fits (Closes again) shut f e g = refl
+  closing_fits put shut f e g = grind (arith, or_left, both)
 
   pub closing : has_begun past ≡ true → has_closed k.put k.shut ≡ true
   closing g = closing_fits k.put k.shut a.put_fits a.shut g

@@ -26,8 +26,7 @@ pub use Rattle.queue_calls.proofs.CountedHistories.{stands_linear as standing}
 
 -- a queue lacks room for as many, by the sum
 pub lacks_as : (capacity : Capacity) (a b c d : ℕ) → a + b ≡ c + d → LacksRoom capacity a b → LacksRoom capacity c d
-lacks_as Unbounded a b c d e l = l
-lacks_as (Between full most) a b c d e l = omega (arith, e, l)
+lacks_as capacity a b c d e l = grind arith
 
 -- what was stored before the take is no more than what is stored
 pub stored_grows : (past : List Event) → n_of (before_take past) ≤ n_of past
@@ -38,14 +37,10 @@ stored_grows (_ ∷ past) = stored_grows past
 
 -- what a side has under way
 pub put_of : (put : PutTurn) (n : ℕ) → call_of_put put ≡ APut n → ((inside : ℕ) × (put ≡ Offers n inside)) ⊎ (put ≡ Late n)
-put_of Free n e = absurd cc
-put_of (Offers m inside) n e = inl (inside, (let same : m ≡ n = cc in ap (λ z. Offers z inside) same))
-put_of (Late m) n e = inr (let same : m ≡ n = cc in ap Late same)
-put_of (Closes again) n e = absurd cc
+put_of put n e = grind arith
 
 pub take_of : (turn : TakeTurn) (n : ℕ) → call_of_take turn ≡ ATake n → (inside : ℕ) × (closed : Bool) × (turn ≡ Waits n inside closed)
-take_of Rests n e = absurd cc
-take_of (Waits wants inside closed) n e = (inside, closed, (let same : wants ≡ n = cc in ap (λ z. Waits z inside closed) same))
+take_of turn n e = grind arith
 
 -- the numbers of items that the put under way offers, or that the take asks for
 pub offers_so_many : {n m inside : ℕ} {put : PutTurn} → call_of_put put ≡ APut n → put ≡ Offers m inside → m ≡ n
@@ -55,20 +50,13 @@ pub wants_so_many : {n m inside : ℕ} {closed : Bool} {turn : TakeTurn} → cal
 wants_so_many {n} {m} call is = let same : ATake m ≡ ATake n = ap call_of_take (sym is) ∙ call in cc
 
 free_of : (put : PutTurn) → call_of_put put ≡ NoCall → put ≡ Free
-free_of Free e = refl
-free_of (Offers n inside) e = absurd cc
-free_of (Late n) e = absurd cc
-free_of (Closes again) e = absurd cc
+free_of put e = grind arith
 
 close_of : (put : PutTurn) → call_of_put put ≡ AClose → (again : Bool) × (put ≡ Closes again)
-close_of Free e = absurd cc
-close_of (Offers n inside) e = absurd cc
-close_of (Late n) e = absurd cc
-close_of (Closes again) e = (again, refl)
+close_of put e = grind arith
 
 rest_of : (turn : TakeTurn) → call_of_take turn ≡ NoCall → turn ≡ Rests
-rest_of Rests e = refl
-rest_of (Waits wants inside closed) e = absurd cc
+rest_of turn e = grind arith
 
 -- nothing contradicts items exactly when they are the next ones and nothing contradicts so few
 pub items_next :
@@ -182,8 +170,7 @@ module _ (capacity : Capacity) (past : List Event) (k : Kept) (a : Agrees past k
 
   -- nothing is inside
   none_comes : (entries : List Offered) → (closed_cause entries ≡ None) ↔ (items_of entries ≡ [])
-  none_comes [] = (λ e. refl, λ e. refl)
-  none_comes (next ∷ rest) = (λ e. absurd cc, λ e. absurd cc)
+  none_comes entries = grind arith
 
   pub none_inside : (closed_cause (coming past) ≡ None) ↔ (k.inside ≡ [])
   none_inside = grind (arith, coming_is past k a, none_comes (coming past))
@@ -205,12 +192,8 @@ module _ (capacity : Capacity) (past : List Event) (k : Kept) (a : Agrees past k
       (limit n inside : ℕ) (closed : Bool) (reply : Reply (List ℕ)) → k.take ≡ Waits n inside closed → is_shut reply ≡ false → CanReply reply (length (passed [] reply)) n →
       FoundFewer inside closed (length (passed [] reply)) (lacked_by reply (length (passed [] reply)) (n - length (passed [] reply))) → AreNext (passed [] reply) k.inside →
       CanEndTake capacity (length k.inside) (offered_by k.put) (length (passed [] reply)) → cause_of limit capacity (TakeEnd reply) past ≡ None
-  taken_unspoken limit n inside closed (Passed items why) is open' (some, few) found (rest, next) fits =
-      grind (arith, length, length-append, fewer_told, off, some_untold, are_next, no_more, left_fit)
-  taken_unspoken limit n inside closed Lacked is open' within found next fits = grind (arith, false_from_ne_true, as_take, or_parts, off, none_found, left_fit)
-  taken_unspoken limit n inside closed Short is open' several found next fits = grind (arith, found_untold, off, fewer_found, drained, left_fit)
-  taken_unspoken limit n inside closed Nothing is open' within found next fits = (left_fit 0).1 fits
-  taken_unspoken limit n inside closed Shut is open' within found next fits = absurd cc
+  taken_unspoken limit n inside closed reply is open' within found next fits =
+      grind (arith, length, length-append, fewer_told, off, some_untold, are_next, no_more, left_fit, false_from_ne_true, as_take, or_parts, none_found, found_untold, fewer_found, drained)
 
   pub unspoken : (limit : ℕ) (event : Event) (after : Kept) → Counts capacity k event after → cause_of limit capacity event past ≡ None
   unspoken limit (PutBegin items) after c = refl

@@ -26,29 +26,23 @@ use Rattle.queue_calls.proofs.CauseTests.{cannot_hold_tells}
 
 module _ {A : Type 0} where
   pub told_on : (b : Bool) (x : A) (y : Option A) (z : A) → b ≡ true → (if b then Some x else y) ≡ Some z → x ≡ z
-  told_on true x y z on e = cc
-  told_on false x y z on e = absurd cc
+  told_on b x y z on e = grind arith
 
   pub told_off : (b : Bool) (x : A) (y : Option A) (z : A) → b ≡ false → (if b then Some x else y) ≡ Some z → y ≡ Some z
-  told_off true x y z off e = absurd cc
-  told_off false x y z off e = e
+  told_off b x y z off e = grind arith
 
   pub told_last : (b : Bool) (x z : A) → (if b then Some x else None) ≡ Some z → x ≡ z
-  told_last true x z e = cc
-  told_last false x z e = absurd cc
+  told_last b x z e = grind arith
 
   pub told_else : (b : Bool) (x z : A) → (if b then None else Some x) ≡ Some z → x ≡ z
-  told_else true x z e = absurd cc
-  told_else false x z e = cc
+  told_else b x z e = grind arith
 
 -- a line that may be there
 pub is_line : (b : Bool) (line : ℕ) (told : Option ℕ) → told ≡ (if b then Some line else None) → b ≡ true → unwrap_or told 0 ≡ line
-is_line true line told e on = ap (λ z. unwrap_or z 0) e
-is_line false line told e on = absurd cc
+is_line b line told e on = grind arith
 
 pub no_line : (b : Bool) (line : ℕ) (told : Option ℕ) → told ≡ (if b then Some line else None) → ((x : ℕ) → told ≡ Some x → ⊥) → b ≡ false
-no_line true line told e none = absurd (none line e)
-no_line false line told e none = refl
+no_line b line told e none = grind arith
 
 module _ (capacity : Capacity) {past : List Event} {k : Kept} (a : Agrees past k) where
   -- ---- puts
@@ -197,8 +191,7 @@ module _ (capacity : Capacity) {past : List Event} {k : Kept} (a : Agrees past k
 
   -- the first of entries
   first_entry : {z : Cause} (entries : List Offered) → closed_cause entries ≡ Some z → ClosedWhileInside (at entries 0) ≡ z
-  first_entry [] e = absurd cc
-  first_entry (next ∷ rest) e = cc
+  first_entry x e = grind arith
 
   pub closed_inside : {z : Cause} → has_closed k.put k.shut ≡ true → (if has_begun past then closed_cause (coming past) else Some ClosedBeforeClose) ≡ Some z → ClosedWhileInside (at (coming past) 0) ≡ z
   closed_inside {z} e f = grind (arith, first_entry, begun_is)
@@ -229,8 +222,7 @@ agreed_few (item ∷ items) [] = omega arith
 agreed_few (item ∷ items) (next ∷ rest) = grind (arith, length, agreed_few items rest)
 
 pub one_not_passed : (item : ℕ) (more : List ℕ) (rest : List Offered) → agreed (item ∷ more) rest ≡ 0 → agreed (item ∷ []) rest ≡ 0
-one_not_passed item more [] e = refl
-one_not_passed item more (next ∷ rest) e = grind arith
+one_not_passed item more rest e = grind arith
 
 -- an item that a line took before others
 pub taken_first :

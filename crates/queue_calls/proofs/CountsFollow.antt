@@ -32,42 +32,27 @@ Tells capacity inside put take lacked done left =
 
 module _ (capacity : Capacity) (inside : List ℕ) (take' : TakeTurn) (shut : Bool) (q : Queue) where
   put_tells : (put : PutTurn) (c : Consumer) (lacked done : ℕ) (left : List ℕ) → Describes capacity inside put take' shut (point q (Putting lacked done left) c) → Tells capacity inside put take' lacked done left
-  put_tells Free c lacked done left d = absurd d.producer
-  put_tells (Offers offered before) c lacked done left d = grind (arith, length, length-append, few_taken, holds_fewer)
-  put_tells (Late offered) c lacked done left d = inr (offered, refl, d.producer.0, d.producer.1)
-  put_tells (Closes again) c lacked done left d = absurd d.producer
+  put_tells put c lacked done left d = grind (arith, length, length-append, few_taken, holds_fewer)
 
   idle_tells : (put : PutTurn) (closed : Bool) → FitsPut capacity put shut Idle closed → put ≡ Free
-  idle_tells Free closed f = refl
-  idle_tells (Offers offered before) closed f = absurd f
-  idle_tells (Late offered) closed f = absurd f
-  idle_tells (Closes again) closed f = absurd f
+  idle_tells put closed f = grind arith
 
   shut_tells : (put : PutTurn) (closed : Bool) → FitsPut capacity put shut FoundShut closed → (offered : ℕ) × (put ≡ Late offered)
-  shut_tells Free closed f = absurd f
-  shut_tells (Offers offered before) closed f = absurd f
-  shut_tells (Late offered) closed f = (offered, refl)
-  shut_tells (Closes again) closed f = absurd f
+  shut_tells put closed f = grind arith
 
   closing_tells : (put : PutTurn) (done closed : Bool) → FitsPut capacity put shut (Closing done) closed → (again : Bool) × (put ≡ Closes again)
-  closing_tells Free done closed f = absurd f
-  closing_tells (Offers offered before) done closed f = absurd f
-  closing_tells (Late offered) done closed f = absurd f
-  closing_tells (Closes again) done closed f = (again, refl)
+  closing_tells put done closed f = grind arith
 
 pub resting_tells : (take : TakeTurn) (q : Queue) → FitsTake take Resting q → take ≡ Rests
-resting_tells Rests q f = refl
-resting_tells (Waits wanted before ended) q f = absurd f
+resting_tells take q f = grind arith
 
 taking_tells :
     (take : TakeTurn) (q : Queue) (lacked : ℕ) (took : List ℕ) (left : ℕ) → FitsTake take (Taking lacked took left) q →
     (wanted before : ℕ) × (ended : Bool) × (take ≡ Waits wanted before ended) × (length took + left ≡ wanted) × MayFindFewer before ended lacked
-taking_tells Rests q lacked took left f = absurd f
-taking_tells (Waits wanted before ended) q lacked took left f = (wanted, before, ended, refl, f.0, f.1)
+taking_tells take q lacked took left f = grind arith
 
 drained_tells : (take : TakeTurn) (q : Queue) → FitsTake take FoundClosed q → (wanted before : ℕ) × (ended : Bool) × (take ≡ Waits wanted before ended) × IsDrained q
-drained_tells Rests q f = absurd f
-drained_tells (Waits wanted before ended) q f = (wanted, before, ended, refl, f)
+drained_tells take q f = grind arith
 
 -- a take took the next items, and can end with them
 can_end_take :

@@ -23,19 +23,13 @@ described_as capacity inside put take shut s p c ep ec d = grind arith
 
 -- what the consumer found about an open queue is unchanged
 pub fits_while_open : (take : TakeTurn) (c : Consumer) (q q' : Queue) → q.closed ≡ false → FitsTake take c q → FitsTake take c q'
-fits_while_open Rests Resting q q' o f = tt
-fits_while_open Rests (Taking lacked took left) q q' o f = absurd f
-fits_while_open Rests FoundClosed q q' o f = absurd f
-fits_while_open (Waits wanted before ended) Resting q q' o f = absurd f
-fits_while_open (Waits wanted before ended) (Taking lacked took left) q q' o f = f
-fits_while_open (Waits wanted before ended) FoundClosed q q' o (e, f) = absurd (cc)
+fits_while_open take c q q' o f = grind arith
 
 -- a take that found the same may have taken other items, with as many to come
 pub fits_alike :
     (take : TakeTurn) (lacked : ℕ) (took took' : List ℕ) (left left' : ℕ) (q q' : Queue) → length took + left ≡ length took' + left' →
     FitsTake take (Taking lacked took left) q → FitsTake take (Taking lacked took' left') q'
-fits_alike Rests lacked took took' left left' q q' e f = absurd f
-fits_alike (Waits wanted before ended) lacked took took' left left' q q' e f = (omega (arith, e, f.0), f.1)
+fits_alike take lacked took took' left left' q q' e f = grind arith
 
 some_items : (xs : List ℕ) → (xs ≡ [] → ⊥) → 0 < length xs
 some_items [] n = absurd (n refl)
@@ -48,36 +42,24 @@ module _ (capacity : Capacity) (inside : List ℕ) (take : TakeTurn) (shut : Boo
   enqueue :
       (put : PutTurn) (q : Queue) (c : Consumer) (lacked done item : ℕ) (left : List ℕ) → HasRoom capacity (length q.items) → q.closed ≡ false →
       Here put (point q (Putting lacked done (item ∷ left)) c) → Here put (point (queue (q.items ++ item ∷ []) false) (Putting lacked (suc done) left) c)
-  enqueue Free q c lacked done item left l o d = absurd d.producer
-  enqueue (Offers offered before) q c lacked done item left l o d = grind (arith, append_assoc, holds_fewer, length, length-append, holds_one_more, fits_while_open)
-  enqueue (Late offered) q c lacked done item left l o d = let f : q.closed ≡ true = d.producer.2 in absurd (cc)
-  enqueue (Closes again) q c lacked done item left l o d = absurd d.producer
+  enqueue put q c lacked done item left l o d = grind (arith, append_assoc, holds_fewer, length, length-append, holds_one_more, fits_while_open)
 
   find_no_room :
       (put : PutTurn) (q : Queue) (c : Consumer) (items : List ℕ) (count : ℕ) → IsSoundPut (length inside) put shut → LacksRoom capacity (length q.items) count → q.closed ≡ false →
       Here put (point q (Putting 0 0 items) c) → Here put (point q (Putting count 0 items) c)
-  find_no_room Free q c items count ok l o d = absurd d.producer
-  find_no_room (Offers offered before) q c items count ok l o d = grind (arith, length, length-append, lacks_with_more)
-  find_no_room (Late offered) q c items count ok l o d = let f : q.closed ≡ true = d.producer.2 in absurd (cc)
-  find_no_room (Closes again) q c items count ok l o d = absurd d.producer
+  find_no_room put q c items count ok l o d = grind (arith, length, length-append, lacks_with_more)
 
   find_shut :
       (put : PutTurn) (q : Queue) (c : Consumer) (items : List ℕ) → q.closed ≡ true →
       Here put (point q (Putting 0 0 items) c) → Here put (point q FoundShut c)
-  find_shut Free q c items o d = absurd d.producer
-  find_shut (Offers offered before) q c items o d = let f : q.closed ≡ false = d.producer.1 in absurd (cc)
-  find_shut (Late offered) q c items o d = record { items = d.items; room = d.room; producer = o; consumer = d.consumer }
-  find_shut (Closes again) q c items o d = absurd d.producer
+  find_shut put q c items o d = grind arith
 
   pub close_found : (c : Consumer) (q : Queue) → FitsTake take c q → FitsTake take c (queue q.items true)
   close_found c q f = grind arith
 
   close :
       (put : PutTurn) (q : Queue) (c : Consumer) → Here put (point q (Closing false) c) → Here put (point (queue q.items true) (Closing true) c)
-  close Free q c d = absurd d.producer
-  close (Offers offered before) q c d = absurd d.producer
-  close (Late offered) q c d = absurd d.producer
-  close (Closes again) q c d = record { items = d.items; room = d.room; producer = ((λ _. refl), (λ _. refl)); consumer = close_found c q d.consumer }
+  close put q c d = grind (arith, close_found)
 
   -- the producer's state is unchanged if the queue is as open or closed as it was
   fits_put : (put : PutTurn) (p : Producer) (a b : Bool) → b ≡ a → FitsPut capacity put shut p a → FitsPut capacity put shut p b
@@ -90,28 +72,10 @@ module _ (capacity : Capacity) (inside : List ℕ) (take : TakeTurn) (shut : Boo
 
   -- the items left are no more than those offered, and the queue that a put found before a close is open
   pub few_left : (put : PutTurn) (p : Producer) (closed : Bool) → FitsPut capacity put shut p closed → length (left_by put p) ≤ offered_by put
-  few_left Free p closed f = omega arith
-  few_left (Offers offered before) Idle closed f = absurd f
-  few_left (Offers offered before) (Putting lacked done left) closed f = omega (arith, f.0)
-  few_left (Offers offered before) FoundShut closed f = absurd f
-  few_left (Offers offered before) (Closing done) closed f = absurd f
-  few_left (Late offered) p closed f = omega arith
-  few_left (Closes again) p closed f = omega arith
+  few_left put p closed f = grind arith
 
   pub shut_closed : (n : ℕ) (put : PutTurn) (p : Producer) (closed : Bool) → IsSoundPut n put shut → FitsPut capacity put shut p closed → shut ≡ true → closed ≡ true
-  shut_closed n Free Idle closed ok f e = f ∙ e
-  shut_closed n Free (Putting lacked done left) closed ok f e = absurd f
-  shut_closed n Free FoundShut closed ok f e = absurd f
-  shut_closed n Free (Closing done) closed ok f e = absurd f
-  shut_closed n (Offers offered before) p closed ok f e = let o : shut ≡ false = ok.0 in absurd (cc)
-  shut_closed n (Late offered) Idle closed ok f e = absurd f
-  shut_closed n (Late offered) (Putting lacked done left) closed ok f e = f.2
-  shut_closed n (Late offered) FoundShut closed ok f e = f
-  shut_closed n (Late offered) (Closing done) closed ok f e = absurd f
-  shut_closed n (Closes again) Idle closed ok f e = absurd f
-  shut_closed n (Closes again) (Putting lacked done left) closed ok f e = absurd f
-  shut_closed n (Closes again) FoundShut closed ok f e = absurd f
-  shut_closed n (Closes again) (Closing done) closed ok f e = f.1 e
+  shut_closed n put p closed ok f e = grind arith
 
   find_fewer :
       (put : PutTurn) (q : Queue) (p : Producer) (wanted count : ℕ) → IsSoundPut (length inside) put shut → IsSoundTake (offered_by put) (length inside) take shut →

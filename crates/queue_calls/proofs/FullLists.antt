@@ -9,10 +9,7 @@ use Rattle.queue_calls.specs.Audits.{HasMoreItems, items_at, left_at}
 use Rattle.queue_calls.proofs.Ends.PutBegins.{put_begin}
 
 left_same : (offered before : ℕ) (p : Producer) → left_by (Offers offered before) p ≡ left_at p
-left_same offered before Idle = refl
-left_same offered before (Putting lacked done left) = refl
-left_same offered before FoundShut = refl
-left_same offered before (Closing done) = refl
+left_same offered before p = grind arith
 
 -- a put begins whose items do not fit after those inside
 pub more_items :

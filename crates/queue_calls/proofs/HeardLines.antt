@@ -24,28 +24,11 @@ IsFirst w = (is_cut : Bool) × (w ≡ first_word is_cut)
 
 -- a line after the first has an event
 no_event : (b : Begun) (w : Word) (numbers : List ℕ) → event_told b w numbers ≡ None → IsFirst w
-no_event b Queue numbers e = (false, refl)
-no_event b Cut numbers e = (true, refl)
-no_event b Put numbers e = absurd (none-some _ (sym e))
-no_event b Stored numbers e = absurd (none-some _ (sym e))
-no_event b PutSome numbers e = absurd (none-some _ (sym e))
-no_event b Full numbers e = absurd (none-some _ (sym e))
-no_event b Short numbers e = absurd (none-some _ (sym e))
-no_event b PutNothing numbers e = absurd (none-some _ (sym e))
-no_event b PutClosed numbers e = absurd (none-some _ (sym e))
-no_event b Close numbers e = absurd (none-some _ (sym e))
-no_event b Take numbers e = absurd (none-some _ (sym e))
-no_event b Item numbers e = absurd (none-some _ (sym e))
-no_event b TakeSome numbers e = absurd (none-some _ (sym e))
-no_event b Empty numbers e = absurd (none-some _ (sym e))
-no_event b TakeShort numbers e = absurd (none-some _ (sym e))
-no_event b TakeNothing numbers e = absurd (none-some _ (sym e))
-no_event b TakeClosed numbers e = absurd (none-some _ (sym e))
+no_event b w numbers e = grind (arith, none-some)
 
 -- the first line has none
 first_tells_none : (b : Begun) (is_cut : Bool) (numbers : List ℕ) → event_told b (first_word is_cut) numbers ≡ None
-first_tells_none b true numbers = refl
-first_tells_none b false numbers = refl
+first_tells_none b is_cut numbers = grind arith
 
 pub not_first : (b : Begun) (w : Word) (numbers : List ℕ) (event : Event) → event_told b w numbers ≡ Some event → (is_cut : Bool) → w ≢ first_word is_cut
 not_first b w numbers event e is_cut is = none-some event (sym (first_tells_none b is_cut numbers) ∙ sym (ap (λ (v : Word). event_told b v numbers) is) ∙ e)
@@ -59,8 +42,7 @@ as_many b [] all = refl
 as_many b (l ∷ lines) all = search (arith, one_event, All-head, All-tail, as_many (begun_after b l.word l.numbers) lines (All-tail IsFurther l lines all))
 
 and_then-append : (o : Option Event) (xs ys : List Event) → and_then o xs ++ ys ≡ and_then o (xs ++ ys)
-and_then-append None xs ys = refl
-and_then-append (Some event) xs ys = refl
+and_then-append o xs ys = grind arith
 
 pub begun_more : (b : Begun) (lines : List Line) (l : Line) → begun_behind b (lines ++ l ∷ []) ≡ begun_after (begun_behind b lines) l.word l.numbers
 begun_more b [] l = refl
@@ -92,8 +74,7 @@ same_word before bytes numbers w l is on = (line_same bytes w l.word numbers l.n
 
 -- a line whose word is not that of a first line does not come first
 pub not_the_first : (before : List Line) (bytes numbers : List ℕ) (w : Word) (l : Line) → before ≡ [] → ¬ IsFirst w → IsLine bytes w numbers → ¬ (ContinuesLines before bytes l)
-not_the_first [] bytes numbers w l none other is on = other (on.0.0.0, same_word [] bytes numbers w l is on ∙ on.0.0.1)
-not_the_first (x ∷ before) bytes numbers w l none other is on = absurd (omega (arith, ap length none))
+not_the_first before bytes numbers w l none other is on = grind (arith, same_word, length)
 
 -- no line that continues others is without an event
 pub not_further : (before : List Line) (bytes numbers told : List ℕ) (b : Begun) (w : Word) (l : Line) → before ≢ [] → event_told b w told ≡ None → IsLine bytes w numbers → ¬ (ContinuesLines before bytes l)
@@ -102,13 +83,11 @@ not_further (x ∷ further) bytes numbers told b w l some none is on = grind (ar
 
 -- the first line
 pub first_line : (before : List Line) (bytes numbers : List ℕ) (is_cut : Bool) → before ≡ [] → IsLine bytes (first_word is_cut) numbers → ContinuesLines before bytes (line (first_word is_cut) numbers)
-first_line [] bytes numbers is_cut none is = (((is_cut, refl), (is.allowed, is.small), All-nil IsFurther), is.text)
-first_line (l ∷ before) bytes numbers is_cut none is = absurd (omega (arith, ap length none))
+first_line before bytes numbers is_cut none is = grind (arith, All-nil, length)
 
 pub first_heard : {S O T N B : Type 0} (offered : O → List Offered) (last : T → List Taken) (hearing : Hearing S O T N B) (before : List Line) (is_cut : Bool) (numbers : List ℕ) → before ≡ [] → hearing.begun ≡ begun.Nothing → HasHeard offered last hearing (capacity_told numbers) []
     → HeardLines offered last hearing is_cut (before ++ line (first_word is_cut) numbers ∷ [])
-first_heard offered last hearing [] is_cut numbers none rests heard = (numbers, [], refl, rests, heard)
-first_heard offered last hearing (l ∷ before) is_cut numbers none rests heard = absurd (omega (arith, ap length none))
+first_heard offered last hearing x is_cut numbers none rests heard = grind (arith, length)
 
 -- a further line
 pub further_line : (before : List Line) (is_cut : Bool) (bytes first : List ℕ) (further : List Line) (b : Begun) (w : Word) (numbers : List ℕ) (event : Event) → before ≡ line (first_word is_cut) first ∷ further → AreLines before

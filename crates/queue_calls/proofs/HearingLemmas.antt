@@ -29,10 +29,7 @@ use Rattle.queue_calls.proofs.TalliesFollow.{last_count, sides_fit, tells}
 
 -- the numbers of a first line have a capacity that a queue may have
 pub proper_told : (numbers : List ℕ) → AllowsQueue numbers → IsProper (capacity_told numbers)
-proper_told [] allowed = tt
-proper_told (most ∷ []) allowed = (omega (arith, allowed), omega arith)
-proper_told (full ∷ most ∷ []) allowed = (omega (arith, allowed), omega (arith, allowed))
-proper_told (full ∷ most ∷ n ∷ more) allowed = absurd allowed
+proper_told numbers allowed = grind arith
 
 -- a fault stays the first one
 stops_before : (capacity : Capacity) (events : List Event) (event : Event) (number : ℕ) (Says : List Event → Event → Type 0) → StopsAt capacity events number Says → StopsAt capacity (events ++ event ∷ []) number Says
@@ -54,20 +51,15 @@ module _ {S O T N B : Type 0} (offered : O → List Offered) (last : T → List 
 
   pub fault_stays : (fault : Option CallsFinding) (w : Witness S O T N B) (tally : Tally) (event : Event) → is_some fault ≡ true → IsFaultSoFar offered last fault w tally capacity events
       → IsFaultSoFar offered last fault w tally capacity (events ++ event ∷ [])
-  fault_stays None w tally event some is = absurd (false≢true some)
-  fault_stays (Some (Lawful report)) w tally event some is = is
-  fault_stays (Some (OutOfTurn number)) w tally event some is = stops_before capacity events event number _ is
-  fault_stays (Some (NotLinearizable number cause)) w tally event some is = stops_before capacity events event number _ is
+  fault_stays fault w tally event some is = grind (arith, false≢true, stops_before)
 
   pub no_fault : (fault : Option CallsFinding) (w : Witness S O T N B) (tally : Tally) → is_some fault ≡ false → IsFaultSoFar offered last fault w tally capacity events
       → Remembers offered last w capacity events × IsTallied capacity events tally
-  no_fault None w tally none is = is
-  no_fault (Some fault) w tally none is = absurd (false≢true (sym none))
+  no_fault fault w tally none is = grind (arith, false≢true)
 
   pub unheard : (fault : Option CallsFinding) (w : Witness S O T N B) (tally : Tally) → is_some fault ≡ false → Remembers offered last w capacity events × IsTallied capacity events tally
       → IsFaultSoFar offered last fault w tally capacity events
-  unheard None w tally none is = is
-  unheard (Some fault) w tally none is = absurd (false≢true (sym none))
+  unheard fault w tally none is = grind (arith, false≢true)
 
   -- one more event is counted
   pub heard_more :

@@ -143,8 +143,7 @@ taken_kept last w next all t is = ap last t.0 ∙ is ∙ ap (λ n. last_of n all
 
 -- the line of the first of such events
 pub first_line : (b : Bool) (line this now : ℕ) (old : Option ℕ) → old ≡ (if b then Some line else None) → this ≡ now → option_or old (Some this) ≡ Some (if b then line else now)
-first_line true line this now old e same = ap (λ z. option_or z (Some this)) e
-first_line false line this now old e same = ap (λ z. option_or z (Some this)) e ∙ ap Some same
+first_line b line this now old e same = grind arith
 
 pub kept_same :
     (inside inside' : List ℕ) (put put' : PutTurn) (take take' : TakeTurn) (shut shut' : Bool) → inside' ≡ inside → put' ≡ put → take' ≡ take → shut' ≡ shut →
@@ -154,8 +153,7 @@ kept_same inside inside' put put' take take' shut shut' i p t s = grind (arith, 
 -- ---- how many items are taken
 
 taken_more : (event : Event) (past : List Event) → k_of (event ∷ past) ≡ length (items_got event) + k_of past
-taken_more (TakeEnd reply) past = omega (arith, length-append (taken past) (map (taken_at (line_behind past)) (passed [] reply)), length-map (passed [] reply) (taken_at (line_behind past)))
-taken_more event past = omega arith
+taken_more event past = grind (arith, length-append, map, length-map)
 
 taken_behind : (events past : List Event) → k_of (reverse events ++ past) ≡ length (all_got events) + k_of past
 taken_behind [] past = omega arith
@@ -206,9 +204,7 @@ module _ {S O T N B : Type 0} {offered : O → List Offered} {last : T → List 
   pub refuses :
       (next : Witness S O T N B) (o t : ℕ) (event : Event) (fault : Fault) → Remembers offered last next capacity events → RefusesEvent o fault (meant w.auditor.capacity) events event →
       RefusesNext offered last o t next capacity events event fault
-  refuses next o t event OutOfTurn still f = (still, f.0, subst (λ z. ¬ IsLinearizable z (events ++ event ∷ [])) r.capacity_is f.1)
-  refuses next o t event NotLinearizable still f = (still, f.0, subst (λ z. ¬ IsLinearizable z (events ++ event ∷ [])) r.capacity_is f.1)
-  refuses next o t event OutOfMemory still f = inl (subst (λ z. HasMoreItems o z (events ++ event ∷ [])) r.capacity_is f.1)
+  refuses next o t event fault still f = grind arith
 
   -- what is remembered after an event on this line, except for the end of a put, if it leaves what is kept besides the
   -- auditor like this

@@ -20,13 +20,7 @@ use Rattle.queue_calls.proofs.Ends.TakeBegins.{keeps_nothing}
 
 -- the put under way offers no more than at its start
 left_few : (capacity : Capacity) (put : PutTurn) (shut : Bool) (p : Producer) (closed : Bool) → FitsPut capacity put shut p closed → length (left_by put p) ≤ offered_by put
-left_few capacity Free shut p closed f = omega arith
-left_few capacity (Offers offered before) shut Idle closed f = absurd f
-left_few capacity (Offers offered before) shut (Putting lacked done left) closed f = omega (arith, f.0)
-left_few capacity (Offers offered before) shut FoundShut closed f = absurd f
-left_few capacity (Offers offered before) shut (Closing done) closed f = absurd f
-left_few capacity (Late offered) shut p closed f = omega arith
-left_few capacity (Closes again) shut p closed f = omega arith
+left_few capacity put shut p closed f = grind arith
 
 -- a take under way that took these, and a put under way that has these left
 consumer_at : (turn : TakeTurn) (front : List ℕ) → length front ≤ asked_by turn → (c : Consumer) × (taken_by c ≡ front) × ((q : Queue) → FitsTake turn c q)
@@ -93,8 +87,7 @@ module _ (capacity : Capacity) (h : List Event) (k : Kept) (j : Stands capacity 
   least_perhaps = reach (least_kept k) (omega arith) (omega arith) few_holds
 
   most_few : (c : Capacity) (s : Point) → length s.queue.items ≤ length k.inside → MayHold c (length s.queue.items) → length s.queue.items ≤ most_kept c k
-  most_few Unbounded s less holds = less
-  most_few (Between full most) s less holds = omega (arith, less, holds)
+  most_few c s less holds = grind arith
 
   -- at most the most, which is possible
   pub most_surely : Surely capacity (λ inside. inside ≤ most_kept capacity k) h
@@ -103,16 +96,13 @@ module _ (capacity : Capacity) (h : List Event) (k : Kept) (j : Stands capacity 
       most_few capacity s (omega (arith, long_is s d)) d.room
 
   most_less : (c : Capacity) → most_kept c k ≤ length k.inside
-  most_less Unbounded = omega arith
-  most_less (Between full most) = omega arith
+  most_less c = grind arith
 
   most_holds : (c : Capacity) → MayHold c (most_kept c k)
-  most_holds Unbounded = tt
-  most_holds (Between full most) = omega arith
+  most_holds c = grind arith
 
   most_far : (c : Capacity) → MayHold c (length k.inside - (offered_by k.put + asked_by k.take)) → length k.inside ≤ most_kept c k + (offered_by k.put + asked_by k.take)
-  most_far Unbounded few = omega arith
-  most_far (Between full most) few = omega (arith, few)
+  most_far c few = grind arith
 
   pub most_perhaps : Perhaps capacity (λ inside. inside ≡ most_kept capacity k) h
   most_perhaps = reach (most_kept capacity k) (most_less capacity) (most_far capacity j.few) (most_holds capacity)
@@ -215,12 +205,7 @@ IsNoLonger (PutBegin items) after before = Unit {0}
 IsNoLonger _ after before = after ≤ before
 
 comes_in : (capacity : Capacity) (k : Kept) (event : Event) (after : Kept) → Counts capacity k event after → IsNoLonger event (length after.inside) (length k.inside)
-comes_in capacity k (PutBegin items) after c = tt
-comes_in capacity k (PutEnd reply) after ends = grind (arith, no_longer, without_less)
-comes_in capacity k CloseBegin after (free, e) = no_longer k after _ e (omega arith)
-comes_in capacity k CloseEnd after (again, is, e) = no_longer k after _ e (omega arith)
-comes_in capacity k (TakeBegin wanted) after (rests, some, e) = no_longer k after _ e (omega arith)
-comes_in capacity k (TakeEnd reply) after (wanted, before, closed, is, ends) = grind (arith, no_longer, drop_less, length)
+comes_in capacity k event after c = grind (arith, no_longer, without_less, drop_less, length)
 
 abbrev Follows : Capacity → List Event → Event → Kept → Kept → Type 0
 Follows capacity events event before after =
@@ -242,8 +227,7 @@ module _ (capacity : Capacity) (proper : IsProper capacity) where
   nothing = keeps_nothing capacity proper
 
   none_most : (c : Capacity) → most_kept c (kept [] Free Rests false) ≤ 0
-  none_most Unbounded = omega arith
-  none_most (Between full most) = omega arith
+  none_most c = grind arith
 
   none_surely : Surely capacity (λ inside. inside ≤ 0) []
   none_surely = surely_more capacity [] (most_kept capacity (kept [] Free Rests false)) 0 (none_most capacity) (most_surely capacity [] (kept [] Free Rests false) nothing)

@@ -47,8 +47,7 @@ last_of P [] l all = All-head P l [] all
 last_of P (first ∷ lines) l all = last_of P lines l (All-tail P first (lines ++ l ∷ []) all)
 
 first_tells : (is_cut : Bool) → tells_queue (first_word is_cut) ≡ true
-first_tells true = refl
-first_tells false = refl
+first_tells is_cut = grind arith
 
 other_tells : (w : Word) → ((is_cut : Bool) → w ≢ first_word is_cut) → tells_queue w ≡ false
 other_tells word.Queue other = absurd (other false refl)

@@ -23,8 +23,7 @@ use Rattle.queue_calls.specs.declared.witnesses.Witness.{Witness}
 use Rattle.queue_calls.proofs.HeardLines.{count_is, events_more, further_heard, further_line, is_line, not_further}
 
 pub no_fault_is : (fault : Option CallsFinding) → is_some fault ≡ false → fault ≡ None
-no_fault_is None is = refl
-no_fault_is (Some finding) is = absurd (false≢true (sym is))
+no_fault_is fault is = grind (arith, false≢true)
 
 -- numbers of 64 bits, one by one
 pub are_small : (numbers : List ℕ) → ((i : ℕ) → get_or numbers i 0 < 2 ^ 64) → AreSmall numbers
@@ -35,8 +34,7 @@ module _ {S O T N B : Type 0} (offered : O → List Offered) (last : T → List 
   pub fault_next :
       (old new : Hearing S O T N B) (number : ℕ) (event : Event) (capacity : Capacity) (events : List Event) (found : Option CallsFinding) → HearsNext offered last old number event found new →
       HasHeardAll offered last old capacity events → length events + 2 ≡ number → IsFaultSoFar offered last found new.witness new.tally capacity (events ++ event ∷ [])
-  fault_next old new number event capacity events None hears heard is = hears capacity events heard is
-  fault_next old new number event capacity events (Some finding) hears heard is = (hears capacity events heard is).1
+  fault_next old new number event capacity events found hears heard is = grind arith
 
   pub heard_as :
       (old new : Hearing S O T N B) (number : ℕ) (event : Event) (found same : Option CallsFinding) → found ≡ same → HearsNext offered last old number event found new → HearsNext offered last old number event same new
@@ -45,9 +43,7 @@ module _ {S O T N B : Type 0} (offered : O → List Offered) (last : T → List 
   found_so :
       (finding : CallsFinding) (w : Witness S O T N B) (tally : Tally) (capacity : Capacity) (events : List Event) → IsFaultSoFar offered last (Some finding) w tally capacity events →
       IsNotLawful finding × IsFoundWithin w.limit capacity events finding
-  found_so (Lawful report) w tally capacity events h = absurd h
-  found_so (OutOfTurn number) w tally capacity events h = (tt, h)
-  found_so (NotLinearizable number cause) w tally capacity events h = (tt, h)
+  found_so finding w tally capacity events h = grind arith
 
   module _ (is_cut : Bool) (before : List Line) (old : Hearing S O T N B) (follows : FollowsLines offered last old is_cut before) where
     -- the history that was heard

@@ -23,8 +23,7 @@ use Rattle.queue_calls.proofs.RecordingLemmas.{line_and}
 
 -- well-formed lines are in the format
 are_of_format : (lines : List Line) → AreLines lines → All IsOfFormat lines
-are_of_format [] are = All-nil IsOfFormat
-are_of_format (first ∷ further) are = All-cons IsOfFormat first further are.1 (λ k d inside. (are.2 k d inside).1)
+are_of_format lines are = grind (arith, All-nil, All-cons)
 
 -- the line of its own text
 its_line : (l : Line) → IsOfFormat l → IsLine (line_text l.word l.numbers) l.word l.numbers

@@ -7,26 +7,19 @@ use Rattle.queue_calls.specs.State.{MayLack}
 use Rattle.queue_calls.specs.Reasons.{before_stored, has_told, line_behind, told_closed_line}
 
 pub shut_is : {A : Type 0} (reply : Reply A) → is_shut reply ≡ true → reply ≡ Shut
-shut_is Shut e = refl
-shut_is _ e = absurd cc
+shut_is x e = grind arith
 
 pub shut_within : {A : Type 0} (reply : Reply A) (done most : ℕ) → is_shut reply ≡ true → CanReply reply done most
-shut_within Shut done most e = tt
-shut_within _ done most e = absurd cc
+shut_within x done most e = grind arith
 
 pub few : {A : Type 0} (size : A → ℕ) (none : A) (reply : Reply A) (most : ℕ) → size none ≡ 0 → CanReply reply (size (passed none reply)) most → size (passed none reply) ≤ most
-few size none (Passed what why) most e within = within.1
-few size none _ most e within = omega (arith, e)
+few size none x most e within = grind arith
 
 -- the reply to a put that stored none, and found no lack of room, is Nothing or Shut
 pub none_is :
     (reply : Reply ℕ) (most left : ℕ) → left ≡ most - passed 0 reply → CanReply reply (passed 0 reply) most → lacked_by reply (passed 0 reply) left ≡ 0 → passed 0 reply ≡ 0 →
     (reply ≡ Nothing) ⊎ (reply ≡ Shut)
-none_is (Passed count why) most left e within lacked none = absurd (omega (arith, within.0, none))
-none_is Lacked most left e within lacked none = absurd (omega (arith, lacked))
-none_is Short most left e within lacked none = absurd (omega (arith, lacked, e, within))
-none_is Nothing most left e within lacked none = inl refl
-none_is Shut most left e within lacked none = inr refl
+none_is reply most left e within lacked none = grind arith
 
 -- ---- what is lacked
 
@@ -35,14 +28,10 @@ lacks_room capacity before count l f = elim f [ inl e ↦ absurd (omega (arith, 
 
 -- a call that passed some lacked one more if it says why and left some, and none otherwise
 short_cases : (why : Bool) (done left : ℕ) → (short_of why done left ≡ 0) ⊎ ((why ≡ true) × (0 < left) × (short_of why done left ≡ suc done))
-short_cases why done zero = inl refl
-short_cases false done (suc left) = inl refl
-short_cases true done (suc left) = inr (refl, omega arith, refl)
+short_cases why done left = grind arith
 
 short_more : (why : Bool) (done left : ℕ) → why ≡ true → 0 < left → short_of why done left ≡ suc done
-short_more why done zero says l = absurd (omega (arith, l))
-short_more false done (suc left) says l = absurd cc
-short_more true done (suc left) says l = refl
+short_more why done left says l = grind arith
 
 pub lacks_more : (capacity : Capacity) (before count most : ℕ) (why : Bool) → MayLack capacity before (short_of why count (most - count)) → why ≡ true → count < most → LacksRoom capacity before (suc count)
 lacks_more capacity before count most why lacks says l = lacks_room capacity before (suc count) (omega arith) (subst (λ z. MayLack capacity before z) (short_more why count (most - count) says (omega (arith, l))) lacks)
@@ -66,17 +55,14 @@ pub none_passed : (reply : Reply ℕ) → (reply ≡ Nothing) ⊎ (reply ≡ Shu
 none_passed reply is = elim is [ inl e ↦ ap (passed 0) e | inr e ↦ ap (passed 0) e ]
 
 pub told_on : (reply : Reply (List ℕ)) (past : List Event) → is_shut reply ≡ false → has_told (TakeEnd reply ∷ past) ≡ has_told past
-told_on Shut past e = absurd cc
-told_on _ past e = refl
+told_on reply past e = grind arith
 
 pub told_line_on :
     (reply : Reply (List ℕ)) (past : List Event) → is_shut reply ≡ false →
     (if has_told past then Some (told_closed_line past) else None) ≡ (if has_told (TakeEnd reply ∷ past) then Some (told_closed_line (TakeEnd reply ∷ past)) else None)
-told_line_on Shut past e = absurd cc
-told_line_on _ past e = refl
+told_line_on reply past e = grind arith
 
 pub stored_line_on :
     (reply : Reply ℕ) (past : List Event) (most line : ℕ) → CanReply reply (passed 0 reply) most → (0 < passed 0 reply → line ≡ line_behind past) →
     (passed 0 reply ≡ 0 → line ≡ line_behind (before_stored past)) → line ≡ line_behind (before_stored (PutEnd reply ∷ past))
-stored_line_on (Passed count why) past most line within some none = some within.0
-stored_line_on _ past most line within some none = none refl
+stored_line_on reply past most line within some none = grind arith

@@ -26,12 +26,7 @@ module _ (capacity : Capacity) (past : List Event) (k : Kept) (f : SidesFit past
   take_is after it e same = (ap (λ (z : Kept). has_put z.put) e ∙ (ap has_put same ∙ f.0), ap (λ (z : Kept). has_take z.take) e)
 
   sides_step : (event : Event) (after : Kept) → Counts capacity k event after → SidesFit (event ∷ past) after
-  sides_step (PutBegin items) after (free, some, begins) = grind (arith, put_is)
-  sides_step (PutEnd reply) after ends = grind (arith, put_is)
-  sides_step CloseBegin after (free, e) = put_is after _ e refl
-  sides_step CloseEnd after (again, is, e) = put_is after _ e refl
-  sides_step (TakeBegin wanted) after (rests, some, e) = take_is after _ e refl
-  sides_step (TakeEnd reply) after (wanted, before, closed, is, ends) = grind (arith, take_is)
+  sides_step event after ends = grind (arith, put_is, take_is)
 
 sides_behind : (capacity : Capacity) (past events : List Event) (k last : Kept) → SidesFit past k → CountTo capacity k events last → SidesFit (reverse events ++ past) last
 sides_behind capacity past [] k last f e = let F : Kept → Type 0 = λ z. SidesFit past z in subst F (sym e) f
@@ -47,8 +42,7 @@ last_count capacity k (first ∷ events) event last (next, c, more) = grind (ari
 
 -- a put that ends stored no more than it offered
 within : (capacity : Capacity) (past : List Event) (k : Kept) (a : Agrees past k) (event : Event) (after : Kept) → Counts capacity k event after → StoresWithin event past
-within capacity past k a (PutEnd reply) after ends = grind (arith, few, offered_is, none_passed)
-within capacity past k a _ after c = tt
+within capacity past k a event after ends = grind (arith, few, offered_is, none_passed)
 
 module _ (capacity : Capacity) (events : List Event) (k : Kept) (proper : IsProper capacity) (counted : CountTo capacity (kept [] Free Rests false) events k) where
   pub sides_fit : SidesFit (reverse events) k

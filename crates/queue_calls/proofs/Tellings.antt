@@ -31,8 +31,7 @@ none_small = All-nil (λ n. n < 2 ^ 64)
 
 -- a put that stored this many: if it says why they are no more, the line has the number only if they are fewer than it offered
 stored_tells : (count offered : ℕ) (why : Bool) → 0 < count → count ≤ offered → AreSmall (count ∷ []) → Tells (begun.Put offered) (line_of (begun.Put offered) (PutEnd (Passed count why))) (PutEnd (Passed count why))
-stored_tells count offered false some most small = (refl, (some, small))
-stored_tells count offered true some most small = grind (arith, nat_lt, ltb-false, none_small)
+stored_tells count offered why some most small = grind (arith, nat_lt, ltb-false, none_small)
 
 -- a take: the line has the number it asks for only if that is more than one
 take_tells : (b : Begun) (wanted : ℕ) → 0 < wanted → AreSmall (wanted ∷ []) → Tells b (line_of b (TakeBegin wanted)) (TakeBegin wanted)
@@ -40,36 +39,11 @@ take_tells b wanted some small = grind (arith, nat_lt, ltb-true, ltb-false, none
 
 -- the line of an event in turn has that event
 line_tells : (b : Begun) (event : Event) (s t : Sides) → BeganLast b s.producer → MovesSides s event t → AreSmall (numbers_in event) → Tells b (line_of b event) event
-line_tells b (PutBegin []) s t began turn small = absurd (omega (arith, turn.1))
-line_tells b (PutBegin (item ∷ items)) s t began turn small = (refl, (tt, small))
-line_tells b (PutEnd (Passed count why)) s t began turn small = grind (arith, stored_tells)
-line_tells b (PutEnd Lacked) s t began turn small = (refl, (tt, none_small))
-line_tells b (PutEnd Short) s t began turn small = (refl, (tt, none_small))
-line_tells b (PutEnd Nothing) s t began turn small = (refl, (tt, none_small))
-line_tells b (PutEnd Shut) s t began turn small = grind (arith, none_small)
-line_tells b CloseBegin s t began turn small = (refl, (tt, none_small))
-line_tells b CloseEnd s t began turn small = grind (arith, none_small)
-line_tells b (TakeBegin wanted) s t began turn small = take_tells b wanted turn.1 small
-line_tells b (TakeEnd (Passed [] why)) s t began turn small = absurd (omega (arith, turn.2))
-line_tells b (TakeEnd (Passed (item ∷ items) true)) s t began turn small = (refl, (tt, small))
-line_tells b (TakeEnd (Passed (item ∷ items) false)) s t began turn small = (refl, (tt, small))
-line_tells b (TakeEnd Lacked) s t began turn small = (refl, (tt, none_small))
-line_tells b (TakeEnd Short) s t began turn small = (refl, (tt, none_small))
-line_tells b (TakeEnd Nothing) s t began turn small = (refl, (tt, none_small))
-line_tells b (TakeEnd Shut) s t began turn small = (refl, (tt, none_small))
+line_tells b event s t began turn small = grind (arith, stored_tells, none_small, take_tells)
 
 -- after it what the producer has under way is again what it began last
 began_behind : (b : Begun) (event : Event) (s t : Sides) → BeganLast b s.producer → MovesSides s event t → BeganLast (begun_after b (line_of b event).word (line_of b event).numbers) t.producer
-began_behind b (PutBegin items) s t began turn = subst (λ (x : Sides). BeganLast (begun.Put (length items)) x.producer) (sym turn.2) refl
-began_behind b (PutEnd (Passed count true)) s t began turn = subst (λ (x : Sides). BeganLast b x.producer) (sym turn.3) tt
-began_behind b (PutEnd (Passed count false)) s t began turn = subst (λ (x : Sides). BeganLast b x.producer) (sym turn.3) tt
-began_behind b (PutEnd _) s t began turn = subst (λ (x : Sides). BeganLast b x.producer) (sym turn.3) tt
-began_behind b CloseBegin s t began turn = subst (λ (x : Sides). BeganLast begun.Close x.producer) (sym turn.1) refl
-began_behind b CloseEnd s t began turn = subst (λ (x : Sides). BeganLast b x.producer) (sym turn.1) tt
-began_behind b (TakeEnd (Passed items true)) s t began turn = subst (λ (x : Sides). BeganLast b x.producer) (sym turn.3) began
-began_behind b (TakeEnd (Passed items false)) s t began turn = subst (λ (x : Sides). BeganLast b x.producer) (sym turn.3) began
-began_behind b (TakeEnd _) s t began turn = subst (λ (x : Sides). BeganLast b x.producer) (sym turn.3) began
-began_behind b event s t began turn = subst (λ (x : Sides). BeganLast b x.producer) (sym turn.2) began
+began_behind b event s t began turn = grind (arith, length)
 
 -- ---- a history
 
@@ -85,8 +59,7 @@ lines_tell b (event ∷ h) s t began (next, turn, turns) small =
     )
 
 first_allowed : (is_cut : Bool) (most : ℕ) → 0 < most → Allows (first_word is_cut) (most ∷ [])
-first_allowed true most some = some
-first_allowed false most some = some
+first_allowed is_cut most some = grind arith
 
 pub history_has_a_recording : HistoryHasARecording
 history_has_a_recording is_cut most h some fits (t, turns) small =

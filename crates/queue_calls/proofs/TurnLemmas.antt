@@ -14,11 +14,7 @@ last_turn [] e s u (n, f, r) = (s, refl, subst (λ z. MovesSides s e z) (sym r) 
 last_turn (x ∷ h) e s u (n, f, r) = let (t, a, b) = last_turn h e n u r in (t, (n, f, a), b)
 
 same_turn : (e : Event) (s t u : Sides) → MovesSides s e t → MovesSides s e u → t ≡ u
-same_turn (PutEnd reply) s t u a b = a.3 ∙ sym b.3
-same_turn CloseBegin s t u a b = a.1 ∙ sym b.1
-same_turn CloseEnd s t u a b = a.1 ∙ sym b.1
-same_turn (TakeEnd reply) s t u a b = a.3 ∙ sym b.3
-same_turn e s t u a b = a.2 ∙ sym b.2
+same_turn e s t u a b = grind arith
 
 pub same_turns : (h : List Event) (s t u : Sides) → Turns s h t → Turns s h u → t ≡ u
 same_turns [] s t u a b = a ∙ sym b
@@ -41,46 +37,25 @@ HasTake FoundClosed (ATake wanted) = Unit {0}
 HasTake _ _ = ⊥
 
 idle_has : (call : UnderWay) → HasPut Idle call → call ≡ NoCall
-idle_has NoCall f = refl
-idle_has (APut n) f = absurd f
-idle_has AClose f = absurd f
-idle_has (ATake n) f = absurd f
+idle_has call f = grind arith
 
 putting_has : (lacked done : ℕ) (left : List ℕ) (call : UnderWay) → HasPut (Putting lacked done left) call → call ≡ APut (done + length left)
-putting_has lacked done left NoCall f = absurd f
-putting_has lacked done left (APut n) f = ap APut (sym f)
-putting_has lacked done left AClose f = absurd f
-putting_has lacked done left (ATake n) f = absurd f
+putting_has lacked done left call f = grind arith
 
 shut_has : (call : UnderWay) → HasPut FoundShut call → (n : ℕ) × (call ≡ APut n)
-shut_has NoCall f = absurd f
-shut_has (APut n) f = (n, refl)
-shut_has AClose f = absurd f
-shut_has (ATake n) f = absurd f
+shut_has call f = grind arith
 
 closing_has : (done : Bool) (call : UnderWay) → HasPut (Closing done) call → call ≡ AClose
-closing_has done NoCall f = absurd f
-closing_has done (APut n) f = absurd f
-closing_has done AClose f = refl
-closing_has done (ATake n) f = absurd f
+closing_has done call f = grind arith
 
 resting_has : (call : UnderWay) → HasTake Resting call → call ≡ NoCall
-resting_has NoCall f = refl
-resting_has (APut n) f = absurd f
-resting_has AClose f = absurd f
-resting_has (ATake n) f = absurd f
+resting_has call f = grind arith
 
 taking_has : (lacked : ℕ) (took : List ℕ) (left : ℕ) (call : UnderWay) → HasTake (Taking lacked took left) call → call ≡ ATake (length took + left)
-taking_has lacked took left NoCall f = absurd f
-taking_has lacked took left (APut n) f = absurd f
-taking_has lacked took left AClose f = absurd f
-taking_has lacked took left (ATake n) f = ap ATake (sym f)
+taking_has lacked took left call f = grind arith
 
 told_has : (call : UnderWay) → HasTake FoundClosed call → (n : ℕ) × (call ≡ ATake n)
-told_has NoCall f = absurd f
-told_has (APut n) f = absurd f
-told_has AClose f = absurd f
-told_has (ATake n) f = (n, refl)
+told_has call f = grind arith
 
 -- an event leads from sides to sides in turn
 record Next (e : Event) (s : Sides) (p : Producer) (c : Consumer) : Type 0 where
@@ -119,13 +94,7 @@ module _ (s : Sides) (p p' : Producer) (c c' : Consumer) (hp : HasPut p s.produc
 
   -- an operation leaves each side's call unchanged
   same_sides : (d : Operation) → ProducerStep p (Effect d) p' → ConsumerStep c (Effect d) c' → HasPut p' s.producer × HasTake c' s.consumer
-  same_sides (Enqueue item) (lacked, done, left, a, b) f = grind (arith, putting_has, has_p, left_p, left_c)
-  same_sides (FindNoRoom count) (items, a, b) f = grind (arith, putting_has, has_p, left_p, left_c)
-  same_sides FindShut (items, a, b) f = grind (arith, putting_has, has_p, left_p, left_c)
-  same_sides Close (a, b) f = grind (arith, closing_has, has_p, left_p, left_c)
-  same_sides (Dequeue item) f (lacked, took, left, a, b) = grind (arith, taking_has, has_c, left_p, left_c, length-append)
-  same_sides (FindFewer count) f (wanted, a, b) = grind (arith, taking_has, has_c, left_p, left_c)
-  same_sides FindClosed f (wanted, a, b) = grind (arith, taking_has, has_c, left_p, left_c)
+  same_sides d f f' = grind (arith, putting_has, has_p, left_p, left_c, closing_has, taking_has, has_c, length-append)
 
 marks_in_turn :
     (capacity : Capacity) (marks : List Mark) (t : Point) → LeadTo capacity marks t →

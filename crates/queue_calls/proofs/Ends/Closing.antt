@@ -105,8 +105,7 @@ module _ (capacity : Capacity) (h : List Event) (inside : List ℕ) (take' : Tak
       by_shut false k t d = begins_open t k d
 
   end_take_ok : (n : ℕ) (shut : Bool) (t : TakeTurn) → IsSoundTake 0 n t shut → IsSoundTake 0 n t true
-  end_take_ok n shut Rests f = tt
-  end_take_ok n shut (Waits wanted before ended) f = (f.0, λ e. (refl, (f.1 e).1))
+  end_take_ok n shut t f = grind arith
 
   pub close_end : (again shut : Bool) → Keeps capacity h inside (Closes again) take' shut → Accepts capacity h CloseEnd inside Free take' true
   close_end again shut k =

@@ -44,8 +44,7 @@ cut (suc n) (x ∷ a) b (y ∷ c) d e l m =
 
 -- no take has returned Closed for an open queue
 open_not_told : (take : TakeTurn) (q : Queue) → q.closed ≡ false → FitsTake take FoundClosed q → ⊥
-open_not_told Rests q o f = f
-open_not_told (Waits wanted before ended) q o (e, f) = cc
+open_not_told take q o f = grind arith
 
 module _ (capacity : Capacity) (h : List Event) (inside items : List ℕ) (take' : TakeTurn) (k : Keeps capacity h inside Free take' false) (some : 0 < length items) where
   abbrev After : Point → Type 0
@@ -87,8 +86,7 @@ module _ (capacity : Capacity) (h : List Event) (inside items : List ℕ) (take'
 
   -- the same lack of room with only as many inside as the queue can have
   may_lack_over : (n lacked : ℕ) → MayLack capacity n lacked → MayLack capacity (n - over capacity n) lacked
-  may_lack_over n zero lacks = inl refl
-  may_lack_over n (suc count) lacks = elim lacks [ inl e ↦ absurd (omega (arith, e)) | inr l ↦ inr (over_lacks capacity n count k.proper l) ]
+  may_lack_over n lacked lacks = grind (arith, over_lacks)
 
   -- with a take under way: it took what the queue cannot have, the put found no room, and then both continued
   took :
@@ -119,17 +117,10 @@ module _ (capacity : Capacity) (h : List Event) (inside items : List ℕ) (take'
   points :
       (xs : List ℕ) (closed : Bool) (p : Producer) (c : Consumer) → Describes capacity (inside ++ items) (Offers (length items) (length inside)) take' false (point (queue xs closed) p c) →
       After (point (queue xs closed) p c)
-  points xs closed Idle c d = absurd d.producer
-  points xs true (Putting lacked m left) c d = let o : true ≡ false = d.producer.1 in absurd (cc)
-  points xs false (Putting lacked m left) Resting d = rested xs left lacked m d.items d.producer.0 d.producer.2 d.room d.consumer
-  points xs false (Putting lacked m left) (Taking found taken wanted) d = took xs left lacked m found taken wanted d.items d.producer.0 d.producer.2 d.room d.consumer
-  points xs false (Putting lacked m left) FoundClosed d = absurd (open_not_told take' (queue xs false) refl d.consumer)
-  points xs closed FoundShut c d = absurd d.producer
-  points xs closed (Closing done) c d = absurd d.producer
+  points xs closed p c d = grind (arith, rested, took, open_not_told)
 
   more_take : (n m : ℕ) (turn : TakeTurn) → IsSoundTake 0 n turn false → IsSoundTake m (n + m) turn false
-  more_take n m Rests f = tt
-  more_take n m (Waits wanted before ended) f = (omega (arith, f.0), λ e. let s : false ≡ true = (f.1 e).0 in absurd (cc))
+  more_take n m turn f = grind arith
 
   pub put_begin : Accepts capacity h (PutBegin items) (inside ++ items) (Offers (length items) (length inside)) take' false
   put_begin =

@@ -24,17 +24,11 @@ whole_of : (xs a b : List ℕ) (n : ℕ) → take n xs ≡ a ++ (b ++ []) → xs
 whole_of xs a b n e = grind (arith, take, append-nil, take-append-drop, drop, append_assoc)
 
 pub few_taken : (turn : TakeTurn) (c : Consumer) (q : Queue) → FitsTake turn c q → length (taken_by c) ≤ asked_by turn
-few_taken Rests Resting q f = omega arith
-few_taken Rests (Taking lacked took left) q f = absurd f
-few_taken Rests FoundClosed q f = absurd f
-few_taken (Waits wanted before ended) Resting q f = absurd f
-few_taken (Waits wanted before ended) (Taking lacked took left) q f = omega (arith, f.0)
-few_taken (Waits wanted before ended) FoundClosed q f = omega arith
+few_taken turn c q f = grind arith
 
 module _ (capacity : Capacity) (h : List Event) (inside : List ℕ) (take' : TakeTurn) (shut : Bool) where
   take_stays : (offered n m : ℕ) (t : TakeTurn) → n - offered ≤ m → shut ≡ false → IsSoundTake offered n t shut → IsSoundTake 0 m t shut
-  take_stays offered n m Rests l o f = tt
-  take_stays offered n m (Waits wanted before ended) l o f = (omega (arith, l, f.0), λ e. let g : shut ≡ true = (f.1 e).0 in absurd (cc))
+  take_stays offered n m t l o f = grind arith
 
   -- a put that began before a close had ended
   module _ (offered before : ℕ) (k : Keeps capacity h inside (Offers offered before) take' shut) (reply : Reply ℕ) where

@@ -25,10 +25,7 @@ behind (x ∷ xs) ys zs e = behind xs ys zs (let f : xs ++ ys ≡ xs ++ zs = cc 
 module _ (capacity : Capacity) (h : List Event) (put : PutTurn) (shut : Bool) where
   -- fewer items inside
   put_stays : (n m : ℕ) (p : PutTurn) → m ≤ n → IsSoundPut n p shut → IsSoundPut m p shut
-  put_stays n m Free l f = tt
-  put_stays n m (Offers offered before) l f = (f.0, omega (arith, l, f.1))
-  put_stays n m (Late offered) l f = f
-  put_stays n m (Closes again) l f = f
+  put_stays n m p l f = grind arith
 
   module _ (reply : Reply (List ℕ)) (wanted before : ℕ) (ended : Bool) (inside : List ℕ) (k : Keeps capacity h (passed [] reply ++ inside) put (Waits wanted before ended) shut) where
     accepts :
@@ -81,60 +78,18 @@ module _ (capacity : Capacity) (h : List Event) (put : PutTurn) (shut : Bool) wh
 
 -- a close has begun, so the queue may be closed
 put_shut : (shut : Bool) (p : PutTurn) → has_closed p shut ≡ true → IsSoundPut 0 p shut → IsSoundPut 0 p true
-put_shut shut Free e f = tt
-put_shut shut (Offers offered before) e f = let o : shut ≡ false = f.0 in absurd (cc)
-put_shut shut (Late offered) e f = refl
-put_shut shut (Closes again) e f = λ a. refl
+put_shut shut p e f = grind arith
 
 module _ (capacity : Capacity) (shut closed : Bool) where
   told_shut : (turn : PutTurn) (p : Producer) → closed ≡ true → FitsPut capacity turn shut p closed → FitsPut capacity turn true p closed
-  told_shut Free Idle c f = c
-  told_shut Free (Putting lacked done left) c f = absurd f
-  told_shut Free FoundShut c f = absurd f
-  told_shut Free (Closing done) c f = absurd f
-  told_shut (Offers offered before) Idle c f = absurd f
-  told_shut (Offers offered before) (Putting lacked done left) c f = f
-  told_shut (Offers offered before) FoundShut c f = absurd f
-  told_shut (Offers offered before) (Closing done) c f = absurd f
-  told_shut (Late offered) Idle c f = absurd f
-  told_shut (Late offered) (Putting lacked done left) c f = f
-  told_shut (Late offered) FoundShut c f = f
-  told_shut (Late offered) (Closing done) c f = absurd f
-  told_shut (Closes again) Idle c f = absurd f
-  told_shut (Closes again) (Putting lacked done left) c f = absurd f
-  told_shut (Closes again) FoundShut c f = absurd f
-  told_shut (Closes again) (Closing done) c f = (f.0, λ e. c)
+  told_shut turn p c f = grind arith
 
   untold_shut : (turn : PutTurn) (p : Producer) → has_closed turn shut ≡ true → FitsPut capacity turn true p closed → closed ≡ true → FitsPut capacity turn shut p closed
-  untold_shut Free Idle e f c = f ∙ sym e
-  untold_shut Free (Putting lacked done left) e f c = absurd f
-  untold_shut Free FoundShut e f c = absurd f
-  untold_shut Free (Closing done) e f c = absurd f
-  untold_shut (Offers offered before) Idle e f c = absurd f
-  untold_shut (Offers offered before) (Putting lacked done left) e f c = f
-  untold_shut (Offers offered before) FoundShut e f c = absurd f
-  untold_shut (Offers offered before) (Closing done) e f c = absurd f
-  untold_shut (Late offered) Idle e f c = absurd f
-  untold_shut (Late offered) (Putting lacked done left) e f c = f
-  untold_shut (Late offered) FoundShut e f c = f
-  untold_shut (Late offered) (Closing done) e f c = absurd f
-  untold_shut (Closes again) Idle e f c = absurd f
-  untold_shut (Closes again) (Putting lacked done left) e f c = absurd f
-  untold_shut (Closes again) FoundShut e f c = absurd f
-  untold_shut (Closes again) (Closing done) e f c = (f.0, λ z. c)
+  untold_shut turn p e f c = grind arith
 
   -- a queue that is closed has no items left to come, and a close has begun
   pub closed_left : (turn : PutTurn) (p : Producer) (n : ℕ) → IsSoundPut n turn shut → FitsPut capacity turn shut p closed → closed ≡ true → (left_by turn p ≡ []) × (has_closed turn shut ≡ true)
-  closed_left Free Idle n ok f c = (refl, sym f ∙ c)
-  closed_left Free (Putting lacked done left) n ok f c = absurd f
-  closed_left Free FoundShut n ok f c = absurd f
-  closed_left Free (Closing done) n ok f c = absurd f
-  closed_left (Offers offered before) Idle n ok f c = absurd f
-  closed_left (Offers offered before) (Putting lacked done left) n ok f c = let o : closed ≡ false = f.1 in absurd (cc)
-  closed_left (Offers offered before) FoundShut n ok f c = absurd f
-  closed_left (Offers offered before) (Closing done) n ok f c = absurd f
-  closed_left (Late offered) p n ok f c = (refl, ok)
-  closed_left (Closes again) p n ok f c = (refl, refl)
+  closed_left turn p n ok f c = grind arith
 
 none_of : (xs ys : List ℕ) → [] ≡ xs ++ ys → xs ≡ []
 none_of [] ys e = refl
