@@ -19,17 +19,11 @@ use Rattle.queue_calls.specs.declared.turns.TakeTurn.TheVariants.{Rests, Waits}
 pub both : (A : Type 0) (b : Bool) → b ≡ true → b ≡ false → A
 both A b e f = grind arith
 
-is_false : (b : Bool) → (b ≡ true → ⊥) → b ≡ false
-is_false b f = grind arith
-
 not_more : (b e : Bool) → (e ≡ true → b ≡ true) → b ≡ false → b ≡ e
 not_more b e f g = grind (arith, both)
 
 one_of : (x y : Bool) → true ≡ (x || y) → (x ≡ true) ⊎ (y ≡ true)
 one_of x y e = grind arith
-
-or_last : (x : Bool) → true ≡ (x || true)
-or_last x = grind arith
 
 pub ended_grows : (past : List Event) → has_ended (before_take past) ≡ true → has_ended past ≡ true
 ended_grows [] e = e
@@ -96,10 +90,6 @@ module _ (past : List Event) (k : Kept) (a : Agrees past k) where
   pub offers_none : has_begun past ≡ true → offers past ≡ []
   offers_none g = offers_fit k.put a.put_fits g
 
-  -- a put that began before a close had ended
-  offering : (n inside : ℕ) → k.put ≡ Offers n inside → (has_told past ≡ false) × (has_begun past ≡ has_ended past)
-  offering n inside e = grind (arith, as_put, is_false, both, not_more)
-
   -- the items of the put under way, by themselves
   apart : a.gone ++ k.inside ≡ items_of (stored past) ++ items_of (offers past)
   apart = a.row ∙ items_both (stored past) (offers past)
@@ -134,7 +124,7 @@ module _ (past : List Event) (k : Kept) (a : Agrees past k) where
   late_begins items free shut = grind (arith, as_put, is_late, map, length)
 
   put_ends : (reply : Reply ℕ) (n inside : ℕ) → k.put ≡ Offers n inside → passed 0 reply ≤ n → n - passed 0 reply ≤ length k.inside → Then (PutEnd reply) (kept (without (n - passed 0 reply) k.inside) Free k.take k.shut)
-  put_ends reply n inside e fewer some = grind (arith, offering, ends, both, ended_grows, as_put)
+  put_ends reply n inside e fewer some = grind (arith, as_put, both, not_more, ends, ended_grows)
 
   late_ends : (reply : Reply ℕ) (n : ℕ) → k.put ≡ Late n → Then (PutEnd reply) (kept k.inside Free k.take k.shut)
   late_ends reply n e = grind (arith, as_put, map, take, take-nil, append-nil, at_rest, length)
@@ -182,9 +172,6 @@ module _ (past : List Event) (k : Kept) (a : Agrees past k) where
   pub closing : has_begun past ≡ true → has_closed k.put k.shut ≡ true
   closing g = closing_fits k.put k.shut a.put_fits a.shut g
 
-  takes_closed : k.inside ≡ [] → has_closed k.put k.shut ≡ true → Then (TakeEnd Shut) (kept [] k.put Rests true)
-  takes_closed none closed = grind (arith, length, append-nil, or_last, begun_is)
-
   -- each event that can be counted
   pub step : (capacity : Capacity) (event : Event) (after : Kept) → Counts capacity k event after → Agrees (event ∷ past) after
   step capacity (PutBegin items) after (free, some, begins) = grind (arith, to, open_begins, late_begins)
@@ -195,7 +182,7 @@ module _ (past : List Event) (k : Kept) (a : Agrees past k) where
   step capacity CloseBegin after (free, e) = to CloseBegin after _ e (close_begins free)
   step capacity CloseEnd after (again, is, e) = to CloseEnd after _ e (close_ends again is)
   step capacity (TakeBegin wanted) after (rests, some, e) = to (TakeBegin wanted) after _ e (take_begins wanted)
-  step capacity (TakeEnd reply) after (wanted, before, closed, is, ends') = grind (arith, to, takes, shut_is, takes_closed)
+  step capacity (TakeEnd reply) after (wanted, before, closed, is, ends') = grind (arith, to, takes, shut_is, length, append-nil, begun_is)
 
 -- before the first event
 pub at_first : Agrees [] (kept [] Free Rests false)

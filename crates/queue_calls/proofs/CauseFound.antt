@@ -24,10 +24,6 @@ use Rattle.queue_calls.proofs.Replies.{fewer_told, found_fewer, lacks_more, lack
 use Rattle.queue_calls.proofs.TurnLemmas.{last_turn, same_turns}
 pub use Rattle.queue_calls.proofs.CountedHistories.{stands_linear as standing}
 
--- a queue lacks room for as many, by the sum
-pub lacks_as : (capacity : Capacity) (a b c d : ℕ) → a + b ≡ c + d → LacksRoom capacity a b → LacksRoom capacity c d
-lacks_as capacity a b c d e l = grind arith
-
 -- what was stored before the take is no more than what is stored
 pub stored_grows : (past : List Event) → n_of (before_take past) ≤ n_of past
 stored_grows [] = omega arith
@@ -117,7 +113,7 @@ module _ (capacity : Capacity) (past : List Event) (k : Kept) (a : Agrees past k
   some_room :
       (n inside count : ℕ) → k.put ≡ Offers n inside →
       ((nat_lt count (length (offers past)) && not (can_lack capacity (n_of past - k_of (before_put past)) (suc count))) ≡ false) ↔ (count < n → LacksRoom capacity inside (suc count))
-  some_room n inside count is = grind (arith, as_put, most_inside, nat_lt, length, lt-ltb, lacks_as, can_lack_tells, not-false, and_of, not, and_off, ltb-true, not_from_true)
+  some_room n inside count is = grind (arith, as_put, most_inside, nat_lt, length, lt-ltb, can_lack_tells, not-false, and_of, not, and_off, ltb-true, not_from_true)
 
   -- if the put says why
   pub some_lack :
@@ -129,7 +125,7 @@ module _ (capacity : Capacity) (past : List Event) (k : Kept) (a : Agrees past k
   -- if none was stored: no room for this many
   pub none_lack :
       (n inside count : ℕ) → k.put ≡ Offers n inside → (not (can_lack capacity (n_of past - k_of (before_put past)) count) ≡ false) ↔ LacksRoom capacity inside count
-  none_lack n inside count is = grind (arith, as_put, lacks_as, can_lack_tells, not-false, not_from_true)
+  none_lack n inside count is = grind (arith, as_put, can_lack_tells, not-false, not_from_true)
 
   -- those that were not taken fit
   pub left_fit : (count : ℕ) → (not_taken_cause capacity count past ≡ None) ↔ CanEndTake capacity (length k.inside) (offered_by k.put) count
@@ -168,20 +164,12 @@ module _ (capacity : Capacity) (past : List Event) (k : Kept) (a : Agrees past k
       (limit : ℕ) (items : List ℕ) (why : Bool) → (items_cause limit capacity why past [] items (coming past) ≡ None) ↔ (AreNext items k.inside × (fewer_cause capacity (length items) why past ≡ None))
   are_next limit items why = grind (arith, length items, items_next limit capacity why past, coming_is past k a, items_unspoken limit capacity why past)
 
-  -- nothing is inside
-  none_comes : (entries : List Offered) → (closed_cause entries ≡ None) ↔ (items_of entries ≡ [])
-  none_comes entries = grind arith
-
   pub none_inside : (closed_cause (coming past) ≡ None) ↔ (k.inside ≡ [])
-  none_inside = grind (arith, coming_is past k a, none_comes (coming past))
+  none_inside = grind (arith, coming_is past k a)
 
   -- none of a late put was taken
   late_inside : (n : ℕ) → k.put ≡ Late n → nat_lt (n_of past) (k_of past) ≡ false
   late_inside n is = let f = as_put past k a (Late n) is in le-ltb (n_of past) (k_of past) (omega (arith, long past k a, ap length f.0))
-
-  -- after a take has returned Closed the queue has no item, and none is found in it
-  some_untold : 0 < length k.inside → has_told past ≡ false
-  some_untold some = false_from_ne_true (has_told past) (λ e. omega (arith, some, ap length (a.told e).0))
 
   found_untold : (n inside : ℕ) (closed : Bool) → k.take ≡ Waits n inside closed → (closed ≡ true → 0 < inside) → has_told past ≡ false
   found_untold n inside closed is found = grind (arith, as_take past k a (Waits n inside closed) is, false_from_ne_true, or_right, stored_grows past, long past k a, length)
@@ -193,7 +181,7 @@ module _ (capacity : Capacity) (past : List Event) (k : Kept) (a : Agrees past k
       FoundFewer inside closed (length (passed [] reply)) (lacked_by reply (length (passed [] reply)) (n - length (passed [] reply))) → AreNext (passed [] reply) k.inside →
       CanEndTake capacity (length k.inside) (offered_by k.put) (length (passed [] reply)) → cause_of limit capacity (TakeEnd reply) past ≡ None
   taken_unspoken limit n inside closed reply is open' within found next fits =
-      grind (arith, length, length-append, fewer_told, off, some_untold, are_next, no_more, left_fit, false_from_ne_true, as_take, or_parts, none_found, found_untold, fewer_found, drained)
+      grind (arith, length, length-append, fewer_told, off, false_from_ne_true, are_next, no_more, left_fit, as_take, or_parts, none_found, found_untold, fewer_found, drained)
 
   pub unspoken : (limit : ℕ) (event : Event) (after : Kept) → Counts capacity k event after → cause_of limit capacity event past ≡ None
   unspoken limit (PutBegin items) after c = refl

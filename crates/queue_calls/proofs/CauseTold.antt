@@ -34,9 +34,6 @@ module _ {A : Type 0} where
   pub told_last : (b : Bool) (x z : A) → (if b then Some x else None) ≡ Some z → x ≡ z
   told_last b x z e = grind arith
 
-  pub told_else : (b : Bool) (x z : A) → (if b then None else Some x) ≡ Some z → x ≡ z
-  told_else b x z e = grind arith
-
 -- a line that may be there
 pub is_line : (b : Bool) (line : ℕ) (told : Option ℕ) → told ≡ (if b then Some line else None) → b ≡ true → unwrap_or told 0 ≡ line
 is_line b line told e on = grind arith
@@ -115,7 +112,7 @@ module _ (capacity : Capacity) {past : List Event} {k : Kept} (a : Agrees past k
   -- ---- takes
 
   pub too_few : {z : Cause} (count : ℕ) → not_taken_cause capacity count past ≡ Some z → NotTaken ((length k.inside - count) - offered_by k.put) (line_behind (before_stored past)) ≡ z
-  too_few count e = grind (arith, least_left, told_else)
+  too_few count e = grind (arith, least_left)
 
   module _ {n before : ℕ} {closed : Bool} (is : k.take ≡ Waits n before closed) where
     wants : wanted past ≡ n
@@ -189,12 +186,8 @@ module _ (capacity : Capacity) {past : List Event} {k : Kept} (a : Agrees past k
           ] in
           told_off _ _ _ _ test (told_off _ _ _ _ ((fewer_found capacity past k a n before closed is some).1 l) (told_off _ _ _ _ open' f))
 
-  -- the first of entries
-  first_entry : {z : Cause} (entries : List Offered) → closed_cause entries ≡ Some z → ClosedWhileInside (at entries 0) ≡ z
-  first_entry x e = grind arith
-
   pub closed_inside : {z : Cause} → has_closed k.put k.shut ≡ true → (if has_begun past then closed_cause (coming past) else Some ClosedBeforeClose) ≡ Some z → ClosedWhileInside (at (coming past) 0) ≡ z
-  closed_inside {z} e f = grind (arith, first_entry, begun_is)
+  closed_inside {z} e f = grind (arith, begun_is)
 
   pub closed_open : {z : Cause} → has_closed k.put k.shut ≡ false → (if has_begun past then closed_cause (coming past) else Some ClosedBeforeClose) ≡ Some z → ClosedBeforeClose ≡ z
   closed_open {z} e f = grind (arith, false_from_ne_true, both, closing)

@@ -40,9 +40,6 @@ module _ (capacity : Capacity) (inside : List ℕ) (take' : TakeTurn) (shut : Bo
   shut_tells : (put : PutTurn) (closed : Bool) → FitsPut capacity put shut FoundShut closed → (offered : ℕ) × (put ≡ Late offered)
   shut_tells put closed f = grind arith
 
-  closing_tells : (put : PutTurn) (done closed : Bool) → FitsPut capacity put shut (Closing done) closed → (again : Bool) × (put ≡ Closes again)
-  closing_tells put done closed f = grind arith
-
 pub resting_tells : (take : TakeTurn) (q : Queue) → FitsTake take Resting q → take ≡ Rests
 resting_tells take q f = grind arith
 
@@ -113,7 +110,7 @@ module _ (capacity : Capacity) (k : Kept) (sound : IsSoundPut (length k.inside) 
         (kept k.inside Free k.take k.shut, inr (offered, is, inr (shut_is reply shuts), refl)))
   ]
   leads_counts CloseBegin m = (kept k.inside (Closes k.shut) k.take k.shut, (free m.producer.0, refl))
-  leads_counts CloseEnd m = grind (arith, closing_tells, as_put)
+  leads_counts CloseEnd m = grind (arith, as_put)
   leads_counts (TakeBegin wanted) m = grind (arith, length, resting_tells, as_take)
   leads_counts (TakeEnd reply) m = elim m.consumer.0 [
     | inl (open', left, within, ec) ↦ (

@@ -39,36 +39,14 @@ module _ (capacity : Capacity) (inside : List ℕ) (take : TakeTurn) (shut : Boo
   abbrev Here : PutTurn → Point → Type 0
   Here put s = Describes capacity inside put take shut s
 
-  enqueue :
-      (put : PutTurn) (q : Queue) (c : Consumer) (lacked done item : ℕ) (left : List ℕ) → HasRoom capacity (length q.items) → q.closed ≡ false →
-      Here put (point q (Putting lacked done (item ∷ left)) c) → Here put (point (queue (q.items ++ item ∷ []) false) (Putting lacked (suc done) left) c)
-  enqueue put q c lacked done item left l o d = grind (arith, append_assoc, holds_fewer, length, length-append, holds_one_more, fits_while_open)
-
-  find_no_room :
-      (put : PutTurn) (q : Queue) (c : Consumer) (items : List ℕ) (count : ℕ) → IsSoundPut (length inside) put shut → LacksRoom capacity (length q.items) count → q.closed ≡ false →
-      Here put (point q (Putting 0 0 items) c) → Here put (point q (Putting count 0 items) c)
-  find_no_room put q c items count ok l o d = grind (arith, length, length-append, lacks_with_more)
-
-  find_shut :
-      (put : PutTurn) (q : Queue) (c : Consumer) (items : List ℕ) → q.closed ≡ true →
-      Here put (point q (Putting 0 0 items) c) → Here put (point q FoundShut c)
-  find_shut put q c items o d = grind arith
-
-  pub close_found : (c : Consumer) (q : Queue) → FitsTake take c q → FitsTake take c (queue q.items true)
-  close_found c q f = grind arith
-
   close :
       (put : PutTurn) (q : Queue) (c : Consumer) → Here put (point q (Closing false) c) → Here put (point (queue q.items true) (Closing true) c)
-  close put q c d = grind (arith, close_found)
-
-  -- the producer's state is unchanged if the queue is as open or closed as it was
-  fits_put : (put : PutTurn) (p : Producer) (a b : Bool) → b ≡ a → FitsPut capacity put shut p a → FitsPut capacity put shut p b
-  fits_put put p a b e f = subst (FitsPut capacity put shut p) (sym e) f
+  close put q c d = grind (arith)
 
   dequeue :
       (put : PutTurn) (q after : Queue) (p : Producer) (lacked : ℕ) (took : List ℕ) (left item : ℕ) → q.items ≡ item ∷ after.items → after.closed ≡ q.closed →
       Here put (point q p (Taking lacked took (suc left))) → Here put (point after p (Taking lacked (took ++ item ∷ []) left))
-  dequeue put q after p lacked took left item e o d = grind (arith, append_assoc, holds_fewer, length, fits_put, fits_alike, length-append)
+  dequeue put q after p lacked took left item e o d = grind (arith, append_assoc, holds_fewer, length, fits_alike, length-append)
 
   -- the items left are no more than those offered, and the queue that a put found before a close is open
   pub few_left : (put : PutTurn) (p : Producer) (closed : Bool) → FitsPut capacity put shut p closed → length (left_by put p) ≤ offered_by put
@@ -77,26 +55,17 @@ module _ (capacity : Capacity) (inside : List ℕ) (take : TakeTurn) (shut : Boo
   pub shut_closed : (n : ℕ) (put : PutTurn) (p : Producer) (closed : Bool) → IsSoundPut n put shut → FitsPut capacity put shut p closed → shut ≡ true → closed ≡ true
   shut_closed n put p closed ok f e = grind arith
 
-  find_fewer :
-      (put : PutTurn) (q : Queue) (p : Producer) (wanted count : ℕ) → IsSoundPut (length inside) put shut → IsSoundTake (offered_by put) (length inside) take shut →
-      length q.items < count → ¬ IsDrained q → Here put (point q p (Taking 0 [] wanted)) → Here put (point q p (Taking count [] wanted))
-  find_fewer put q p wanted count ok took l some d = grind (arith, length, length-append, few_left, shut_closed, some_items)
-
-  find_closed :
-      (put : PutTurn) (q : Queue) (p : Producer) (wanted : ℕ) → IsDrained q → Here put (point q p (Taking 0 [] wanted)) → Here put (point q p FoundClosed)
-  find_closed put q p wanted none d = grind arith
-
   pub stays :
       (put : PutTurn) → IsSoundPut (length inside) put shut → IsSoundTake (offered_by put) (length inside) take shut →
       Stays capacity (Describes capacity inside put take shut)
-  stays put ok took s t (Enqueue item) d l = search (arith, described_at, enqueue, described_as)
-  stays put ok took s t (FindNoRoom count) d l = search (arith, described_at, find_no_room, described_as)
-  stays put ok took s t FindShut d l = grind (arith, described_at, find_shut, described_as)
+  stays put ok took s t (Enqueue item) d l = search (arith, described_at, append_assoc, holds_fewer, length, length-append, holds_one_more, fits_while_open, described_as)
+  stays put ok took s t (FindNoRoom count) d l = search (arith, described_at, length, length-append, lacks_with_more, described_as)
+  stays put ok took s t FindShut d l = grind (arith, described_at, described_as)
   stays put ok took s t Close d l = grind (arith, described_at, close, described_as)
   stays put ok took s t (Dequeue item) d l =
       let (lacked, items, left, ec, ec') = l.consumer in
       let (e, o) = l.queue in
       described_at capacity inside put take shut t t.queue s.producer (Taking lacked (items ++ item ∷ []) left) refl l.producer ec'
       (dequeue put s.queue t.queue s.producer lacked items left item e o (described_as capacity inside put take shut s s.producer (Taking lacked items (suc left)) refl ec d))
-  stays put ok took s t (FindFewer count) d l = grind (arith, described_at, find_fewer, described_as)
-  stays put ok took s t FindClosed d l = grind (arith, described_at, find_closed, described_as)
+  stays put ok took s t (FindFewer count) d l = grind (arith, described_at, length, length-append, few_left, shut_closed, some_items, described_as)
+  stays put ok took s t FindClosed d l = grind (arith, described_at, described_as)

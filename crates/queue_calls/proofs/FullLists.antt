@@ -8,11 +8,8 @@ use Rattle.queue_calls.specs.State.{taken_by, left_by, Keeps}
 use Rattle.queue_calls.specs.Audits.{HasMoreItems, items_at, left_at}
 use Rattle.queue_calls.proofs.Ends.PutBegins.{put_begin}
 
-left_same : (offered before : ℕ) (p : Producer) → left_by (Offers offered before) p ≡ left_at p
-left_same offered before p = grind arith
-
 -- a put begins whose items do not fit after those inside
 pub more_items :
     (capacity : Capacity) (h : List Event) (inside items : List ℕ) (take' : TakeTurn) → Keeps capacity h inside Free take' false → 0 < length items → (room : ℕ) →
     room < length inside + length items → HasMoreItems room capacity (h ++ PutBegin items ∷ [])
-more_items capacity h inside items take' k some room full = grind (arith, put_begin capacity h inside items take' k some, left_same, length items, length inside, length-append inside items)
+more_items capacity h inside items take' k some room full = grind (arith, put_begin capacity h inside items take' k some, length items, length inside, length-append inside items)

@@ -33,13 +33,10 @@ first_tells_none b is_cut numbers = grind arith
 pub not_first : (b : Begun) (w : Word) (numbers : List ℕ) (event : Event) → event_told b w numbers ≡ Some event → (is_cut : Bool) → w ≢ first_word is_cut
 not_first b w numbers event e is_cut is = none-some event (sym (first_tells_none b is_cut numbers) ∙ sym (ap (λ (v : Word). event_told b v numbers) is) ∙ e)
 
-one_event : (b : Begun) (l : Line) → IsFurther l → (events : List Event) → length (and_then (event_told b l.word l.numbers) events) ≡ suc (length events)
-one_event b l further events = grind (arith, length, no_event)
-
 -- as many events as lines
 pub as_many : (b : Begun) (lines : List Line) → All IsFurther lines → length (events_told b lines) ≡ length lines
 as_many b [] all = refl
-as_many b (l ∷ lines) all = search (arith, one_event, All-head, All-tail, as_many (begun_after b l.word l.numbers) lines (All-tail IsFurther l lines all))
+as_many b (l ∷ lines) all = search (arith, length, no_event, All-head, All-tail, as_many (begun_after b l.word l.numbers) lines (All-tail IsFurther l lines all))
 
 and_then-append : (o : Option Event) (xs ys : List Event) → and_then o xs ++ ys ≡ and_then o (xs ++ ys)
 and_then-append o xs ys = grind arith
@@ -68,18 +65,14 @@ last_is (first ∷ further) l are = (All-last further l are.2).1
 pub is_line : (before : List Line) (bytes : List ℕ) (l : Line) → ContinuesLines before bytes l → IsLine bytes l.word l.numbers
 is_line before bytes l on = grind (arith, last_is)
 
--- the word of a line that continues lines is the one that was read
-same_word : (before : List Line) (bytes numbers : List ℕ) (w : Word) (l : Line) → IsLine bytes w numbers → ContinuesLines before bytes l → w ≡ l.word
-same_word before bytes numbers w l is on = (line_same bytes w l.word numbers l.numbers is (is_line before bytes l on)).0
-
 -- a line whose word is not that of a first line does not come first
 pub not_the_first : (before : List Line) (bytes numbers : List ℕ) (w : Word) (l : Line) → before ≡ [] → ¬ IsFirst w → IsLine bytes w numbers → ¬ (ContinuesLines before bytes l)
-not_the_first before bytes numbers w l none other is on = grind (arith, same_word, length)
+not_the_first before bytes numbers w l none other is on = grind (arith, line_same, is_line, length)
 
 -- no line that continues others is without an event
 pub not_further : (before : List Line) (bytes numbers told : List ℕ) (b : Begun) (w : Word) (l : Line) → before ≢ [] → event_told b w told ≡ None → IsLine bytes w numbers → ¬ (ContinuesLines before bytes l)
 not_further [] bytes numbers told b w l some none is on = some refl
-not_further (x ∷ further) bytes numbers told b w l some none is on = grind (arith, no_event b w told none, All-last further l on.0.2, same_word (x ∷ further) bytes numbers w l is on)
+not_further (x ∷ further) bytes numbers told b w l some none is on = grind (arith, no_event b w told none, All-last further l on.0.2, line_same, is_line)
 
 -- the first line
 pub first_line : (before : List Line) (bytes numbers : List ℕ) (is_cut : Bool) → before ≡ [] → IsLine bytes (first_word is_cut) numbers → ContinuesLines before bytes (line (first_word is_cut) numbers)

@@ -31,10 +31,6 @@ use Rattle.queue_calls.proofs.TalliesFollow.{last_count, sides_fit, tells}
 pub proper_told : (numbers : List ℕ) → AllowsQueue numbers → IsProper (capacity_told numbers)
 proper_told numbers allowed = grind arith
 
--- a fault stays the first one
-stops_before : (capacity : Capacity) (events : List Event) (event : Event) (number : ℕ) (Says : List Event → Event → Type 0) → StopsAt capacity events number Says → StopsAt capacity (events ++ event ∷ []) number Says
-stops_before capacity events event number Says at = grind (arith, append_assoc)
-
 -- an event at which the history is not linearizable is the first fault
 pub stops_here : (capacity : Capacity) (events : List Event) (event : Event) (number : ℕ) (Says : List Event → Event → Type 0) → IsLinearizable capacity events
     → ¬ (IsLinearizable capacity (events ++ event ∷ [])) → Says events event → length events + 2 ≡ number → StopsAt capacity (events ++ event ∷ []) number Says
@@ -51,7 +47,7 @@ module _ {S O T N B : Type 0} (offered : O → List Offered) (last : T → List 
 
   pub fault_stays : (fault : Option CallsFinding) (w : Witness S O T N B) (tally : Tally) (event : Event) → is_some fault ≡ true → IsFaultSoFar offered last fault w tally capacity events
       → IsFaultSoFar offered last fault w tally capacity (events ++ event ∷ [])
-  fault_stays fault w tally event some is = grind (arith, false≢true, stops_before)
+  fault_stays fault w tally event some is = grind (arith, false≢true, append_assoc)
 
   pub no_fault : (fault : Option CallsFinding) (w : Witness S O T N B) (tally : Tally) → is_some fault ≡ false → IsFaultSoFar offered last fault w tally capacity events
       → Remembers offered last w capacity events × IsTallied capacity events tally

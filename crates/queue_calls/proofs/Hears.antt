@@ -40,14 +40,11 @@ take_same (suc m) zero (x ∷ xs) e = absurd (omega (arith, e))
 take_same (suc m) (suc n) [] e = refl
 take_same (suc m) (suc n) (x ∷ xs) e = ap (λ z. x ∷ z) (take_same m n xs (omega (arith, e)))
 
-long_entries : (entries : List Offered) (inside : List ℕ) → items_of entries ≡ inside → length entries ≡ length inside
-long_entries entries inside e = sym (length-map entries (λ o. o.item)) ∙ ap length e
-
 -- the first entries are those that are kept
 first_ones :
     (kept count : ℕ) (entries left : List Offered) (inside : List ℕ) → left ≡ take kept entries → items_of left ≡ take count inside → length entries ≡ length inside → count ≤ length inside →
     left ≡ take count entries
-first_ones kept count entries left inside moves are same few = grind (arith, length, long_entries, take, length-take-le, few, take_same)
+first_ones kept count entries left inside moves are same few = grind (arith, length, length-map, take, length-take-le, few, take_same)
 
 marked_behind : (n line : ℕ) (entries : List Offered) → items_of (take n entries ++ map (stored_at line) (drop n entries)) ≡ items_of entries
 marked_behind zero line entries = items_stored line entries

@@ -18,10 +18,6 @@ use Rattle.queue_calls.proofs.Ends.TakeBegins.{keeps_nothing}
 
 -- ---- the points that are described
 
--- the put under way offers no more than at its start
-left_few : (capacity : Capacity) (put : PutTurn) (shut : Bool) (p : Producer) (closed : Bool) → FitsPut capacity put shut p closed → length (left_by put p) ≤ offered_by put
-left_few capacity put shut p closed f = grind arith
-
 -- a take under way that took these, and a put under way that has these left
 consumer_at : (turn : TakeTurn) (front : List ℕ) → length front ≤ asked_by turn → (c : Consumer) × (taken_by c ≡ front) × ((q : Queue) → FitsTake turn c q)
 consumer_at Rests [] few = (Resting, refl, (λ q. tt))
@@ -78,7 +74,7 @@ module _ (capacity : Capacity) (h : List Event) (k : Kept) (j : Stands capacity 
 
   -- at least the least, which is possible
   pub least_surely : Surely capacity (λ inside. least_kept k ≤ inside) h
-  least_surely s r = grind (arith, long_is, few_taken, take, left_few)
+  least_surely s r = grind (arith, long_is, few_taken, take)
 
   few_holds : MayHold capacity (least_kept k)
   few_holds = subst (λ z. MayHold capacity z) (omega arith) j.few
@@ -194,18 +190,12 @@ module _ (capacity : Capacity) (events : List Event) (event : Event) (before aft
 no_longer : (k after it : Kept) → after ≡ it → length it.inside ≤ length k.inside → length after.inside ≤ length k.inside
 no_longer k after it e less = omega (arith, ap (λ (z : Kept). length z.inside) e, less)
 
-without_less : (rest : ℕ) (xs : List ℕ) → length (without rest xs) ≤ length xs
-without_less rest xs = omega (arith, length-take (length xs - rest) xs)
-
-drop_less : (count : ℕ) (xs : List ℕ) → length (drop count xs) ≤ length xs
-drop_less count xs = omega (arith, length-drop count xs)
-
 abbrev IsNoLonger : Event → (after before : ℕ) → Type 0
 IsNoLonger (PutBegin items) after before = Unit {0}
 IsNoLonger _ after before = after ≤ before
 
 comes_in : (capacity : Capacity) (k : Kept) (event : Event) (after : Kept) → Counts capacity k event after → IsNoLonger event (length after.inside) (length k.inside)
-comes_in capacity k event after c = grind (arith, no_longer, without_less, drop_less, length)
+comes_in capacity k event after c = grind (arith, no_longer, length-take, length, length-drop)
 
 abbrev Follows : Capacity → List Event → Event → Kept → Kept → Type 0
 Follows capacity events event before after =

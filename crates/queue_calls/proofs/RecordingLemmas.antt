@@ -50,19 +50,15 @@ too_long before bytes more text long = grind (arith, length, length-append, many
 pub ended_text : (before : List Line) (bytes cut end more : List ℕ) → bytes ≡ lines_text before ++ cut → bytes ++ (end ++ 10 ∷ more) ≡ lines_text before ++ ((cut ++ end) ++ 10 ∷ more)
 ended_text before bytes cut end more text = grind (arith, append_assoc)
 
--- no byte of a line
-none_begins : (is_first : Bool) (begun : ℕ) (cut : List ℕ) → begun ≡ 0 → cut ≡ [] → KeepsBeginning is_first begun cut
-none_begins is_first begun cut zero none = grind (arith, nothing_begun)
-
 -- nothing was read
 pub nothing_read : {S O T N B : Type 0} (offered : O → List Offered) (last : T → List Taken) (bytes_of : B → List ℕ) (new : RecordingIn S O T N B) → bytes_of new.cut ≡ [] → new.begun ≡ 0 → HasLines offered last new.lines [] → HasRead offered last bytes_of new []
-nothing_read offered last bytes_of new none zero lines = grind (arith, All-nil, none_begins)
+nothing_read offered last bytes_of new none zero lines = grind (arith, All-nil, nothing_begun)
 
 -- a line was read, and no byte of another one
 pub line_ended : {S O T N B : Type 0} (offered : O → List Offered) (last : T → List Taken) (bytes_of : B → List ℕ) (old new : RecordingIn S O T N B) (bytes end : List ℕ) (has : HasRead offered last bytes_of old bytes) (l : Line)
     → bytes_of old.cut ++ end ≡ line_text l.word l.numbers → bytes_of new.cut ≡ [] → new.begun ≡ 0 → HasLines offered last new.lines (has.ended ++ l ∷ []) → HasRead offered last bytes_of new (bytes ++ end ++ 10 ∷ [])
 line_ended offered last bytes_of old new bytes end has l is none zero lines =
-    grind (arith, append_assoc bytes end (10 ∷ []), ended_text has.ended bytes (bytes_of old.cut) end, lines_more has.ended l, append-nil (lines_text (has.ended ++ l ∷ [])), All-nil, none_begins (length (has.ended ++ l ∷ []) == 0) new.begun (bytes_of new.cut) zero none, length (has.ended ++ l ∷ []))
+    grind (arith, append_assoc bytes end (10 ∷ []), ended_text has.ended bytes (bytes_of old.cut) end, lines_more has.ended l, append-nil (lines_text (has.ended ++ l ∷ [])), All-nil, nothing_begun, length (has.ended ++ l ∷ []))
 
 -- ---- refusals
 

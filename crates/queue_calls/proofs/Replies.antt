@@ -26,10 +26,6 @@ none_is reply most left e within lacked none = grind arith
 pub lacks_room : (capacity : Capacity) (before count : ℕ) → 0 < count → MayLack capacity before count → LacksRoom capacity before count
 lacks_room capacity before count l f = elim f [ inl e ↦ absurd (omega (arith, e, l)) | inr g ↦ g ]
 
--- a call that passed some lacked one more if it says why and left some, and none otherwise
-short_cases : (why : Bool) (done left : ℕ) → (short_of why done left ≡ 0) ⊎ ((why ≡ true) × (0 < left) × (short_of why done left ≡ suc done))
-short_cases why done left = grind arith
-
 short_more : (why : Bool) (done left : ℕ) → why ≡ true → 0 < left → short_of why done left ≡ suc done
 short_more why done left says l = grind arith
 
@@ -37,7 +33,7 @@ pub lacks_more : (capacity : Capacity) (before count most : ℕ) (why : Bool) �
 lacks_more capacity before count most why lacks says l = lacks_room capacity before (suc count) (omega arith) (subst (λ z. MayLack capacity before z) (short_more why count (most - count) says (omega (arith, l))) lacks)
 
 pub may_lack_more : (capacity : Capacity) (before count most : ℕ) (why : Bool) → (why ≡ true → count < most → LacksRoom capacity before (suc count)) → MayLack capacity before (short_of why count (most - count))
-may_lack_more capacity before count most why f = grind (arith, short_cases)
+may_lack_more capacity before count most why f = grind (arith)
 
 pub fewer_told :
     (before : ℕ) (ended : Bool) (items : List ℕ) (most : ℕ) (why : Bool) → FoundFewer before ended (length items) (short_of why (length items) (most - length items)) → why ≡ true →
@@ -47,7 +43,7 @@ fewer_told before ended items most why found says l = grind (arith, length, shor
 pub found_fewer :
     (before : ℕ) (ended : Bool) (items : List ℕ) (most : ℕ) (why : Bool) → 0 < length items → (why ≡ true → length items < most → before ≤ length items) →
     FoundFewer before ended (length items) (short_of why (length items) (most - length items))
-found_fewer before ended items most why some f l = grind (arith, short_cases, length)
+found_fewer before ended items most why some f l = grind (arith, length)
 
 -- ---- what is reported after them
 

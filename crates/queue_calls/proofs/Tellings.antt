@@ -29,17 +29,9 @@ none_small = All-nil (λ n. n < 2 ^ 64)
 
 -- ---- one event
 
--- a put that stored this many: if it says why they are no more, the line has the number only if they are fewer than it offered
-stored_tells : (count offered : ℕ) (why : Bool) → 0 < count → count ≤ offered → AreSmall (count ∷ []) → Tells (begun.Put offered) (line_of (begun.Put offered) (PutEnd (Passed count why))) (PutEnd (Passed count why))
-stored_tells count offered why some most small = grind (arith, nat_lt, ltb-false, none_small)
-
--- a take: the line has the number it asks for only if that is more than one
-take_tells : (b : Begun) (wanted : ℕ) → 0 < wanted → AreSmall (wanted ∷ []) → Tells b (line_of b (TakeBegin wanted)) (TakeBegin wanted)
-take_tells b wanted some small = grind (arith, nat_lt, ltb-true, ltb-false, none_small)
-
 -- the line of an event in turn has that event
 line_tells : (b : Begun) (event : Event) (s t : Sides) → BeganLast b s.producer → MovesSides s event t → AreSmall (numbers_in event) → Tells b (line_of b event) event
-line_tells b event s t began turn small = grind (arith, stored_tells, none_small, take_tells)
+line_tells b event s t began turn small = grind (arith, nat_lt, ltb-false, none_small, ltb-true)
 
 -- after it what the producer has under way is again what it began last
 began_behind : (b : Begun) (event : Event) (s t : Sides) → BeganLast b s.producer → MovesSides s event t → BeganLast (begun_after b (line_of b event).word (line_of b event).numbers) t.producer

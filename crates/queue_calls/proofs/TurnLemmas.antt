@@ -39,23 +39,8 @@ HasTake _ _ = ⊥
 idle_has : (call : UnderWay) → HasPut Idle call → call ≡ NoCall
 idle_has call f = grind arith
 
-putting_has : (lacked done : ℕ) (left : List ℕ) (call : UnderWay) → HasPut (Putting lacked done left) call → call ≡ APut (done + length left)
-putting_has lacked done left call f = grind arith
-
-shut_has : (call : UnderWay) → HasPut FoundShut call → (n : ℕ) × (call ≡ APut n)
-shut_has call f = grind arith
-
 closing_has : (done : Bool) (call : UnderWay) → HasPut (Closing done) call → call ≡ AClose
 closing_has done call f = grind arith
-
-resting_has : (call : UnderWay) → HasTake Resting call → call ≡ NoCall
-resting_has call f = grind arith
-
-taking_has : (lacked : ℕ) (took : List ℕ) (left : ℕ) (call : UnderWay) → HasTake (Taking lacked took left) call → call ≡ ATake (length took + left)
-taking_has lacked took left call f = grind arith
-
-told_has : (call : UnderWay) → HasTake FoundClosed call → (n : ℕ) × (call ≡ ATake n)
-told_has call f = grind arith
 
 -- an event leads from sides to sides in turn
 record Next (e : Event) (s : Sides) (p : Producer) (c : Consumer) : Type 0 where
@@ -75,26 +60,20 @@ module _ (s : Sides) (p p' : Producer) (c c' : Consumer) (hp : HasPut p s.produc
   has_p : (q : Producer) → p ≡ q → HasPut q s.producer
   has_p q e = subst (λ z. HasPut z s.producer) e hp
 
-  has_c : (d : Consumer) → c ≡ d → HasTake d s.consumer
-  has_c d e = subst (λ z. HasTake z s.consumer) e hc
-
   left_p : (q : Producer) (call : UnderWay) → p' ≡ q → HasPut q call → HasPut p' call
   left_p q call e f = subst (λ z. HasPut z call) (sym e) f
 
-  left_c : (d : Consumer) (call : UnderWay) → c' ≡ d → HasTake d call → HasTake c' call
-  left_c d call e f = subst (λ z. HasTake z call) (sym e) f
-
   in_turn : (e : Event) → ProducerStep p (Happens e) p' → ConsumerStep c (Happens e) c' → Next e s p' c'
   in_turn (PutBegin items) (a, some, b) f = grind (arith, by_put, length, idle_has, has_p, left_p)
-  in_turn (PutEnd reply) (was, b) f = grind (arith, length, putting_has, has_p, shut_has, shut_within, by_put, left_p)
+  in_turn (PutEnd reply) (was, b) f = grind (arith, length, has_p, shut_within, by_put, left_p)
   in_turn CloseBegin (a, b) f = by_put CloseBegin AClose (idle_has s.producer (has_p Idle a), refl) (left_p (Closing false) AClose b tt) f
   in_turn CloseEnd (a, b) f = by_put CloseEnd NoCall (closing_has true s.producer (has_p (Closing true) a), refl) (left_p Idle NoCall b tt) f
-  in_turn (TakeBegin wanted) f (a, some, b) = grind (arith, by_take, resting_has, has_c, left_c)
-  in_turn (TakeEnd reply) f (was, b) = grind (arith, length, taking_has, has_c, told_has, shut_within, by_take, left_c)
+  in_turn (TakeBegin wanted) f (a, some, b) = grind (arith, by_take)
+  in_turn (TakeEnd reply) f (was, b) = grind (arith, length, shut_within, by_take)
 
   -- an operation leaves each side's call unchanged
   same_sides : (d : Operation) → ProducerStep p (Effect d) p' → ConsumerStep c (Effect d) c' → HasPut p' s.producer × HasTake c' s.consumer
-  same_sides d f f' = grind (arith, putting_has, has_p, left_p, left_c, closing_has, taking_has, has_c, length-append)
+  same_sides d f f' = grind (arith, has_p, left_p, closing_has, length-append)
 
 marks_in_turn :
     (capacity : Capacity) (marks : List Mark) (t : Point) → LeadTo capacity marks t →

@@ -42,10 +42,6 @@ cut (suc n) (x ∷ a) b (y ∷ c) d e l m =
       others = r.others;
     }
 
--- no take has returned Closed for an open queue
-open_not_told : (take : TakeTurn) (q : Queue) → q.closed ≡ false → FitsTake take FoundClosed q → ⊥
-open_not_told take q o f = grind arith
-
 module _ (capacity : Capacity) (h : List Event) (inside items : List ℕ) (take' : TakeTurn) (k : Keeps capacity h inside Free take' false) (some : 0 < length items) where
   abbrev After : Point → Type 0
   After t = CanLeadTo capacity (h ++ PutBegin items ∷ []) t
@@ -117,7 +113,7 @@ module _ (capacity : Capacity) (h : List Event) (inside items : List ℕ) (take'
   points :
       (xs : List ℕ) (closed : Bool) (p : Producer) (c : Consumer) → Describes capacity (inside ++ items) (Offers (length items) (length inside)) take' false (point (queue xs closed) p c) →
       After (point (queue xs closed) p c)
-  points xs closed p c d = grind (arith, rested, took, open_not_told)
+  points xs closed p c d = grind (arith, rested, took)
 
   more_take : (n m : ℕ) (turn : TakeTurn) → IsSoundTake 0 n turn false → IsSoundTake m (n + m) turn false
   more_take n m turn f = grind arith
