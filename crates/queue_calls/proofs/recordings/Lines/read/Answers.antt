@@ -72,14 +72,7 @@ returns-in_default-2-clause-refused g c before has =
     (omega (arith, has.count, c.in-Some.ensures.1), λ l on. c.in_ok-word.ensures.none c.in_default-2.is l.word l.numbers (is_line before c.args.line.now l on))
 
 pub returns-then-ne-2-clause-refused : goal.returns-then-ne-2-clause-refused
-returns-then-ne-2-clause-refused g c before has =
-    let none : before ≡ [] = nil_from_length before (omega (arith, has.count, c.in-Some.ensures.1, c.if-count-eq1.true)) in
-    let is = read_is _ _ _ _ c.in-Some-2.is c.in_ok-word.ensures.line in
-    let other : ¬ IsFirst c.in-Some-2.word = λ first. elim first.0 as (λ t. c.in-Some-2.word ≡ first_word t → ⊥) [
-      | true ↦ λ e. grind (arith, e, c.ne-then-ne.ensures, c.if-ne-2.true)
-      | false ↦ λ e. grind (arith, e, c.ne.ensures, c.if-ne.true)
-    ] first.1 in
-    (omega (arith, has.count, c.in-Some.ensures.1), λ l. not_the_first before c.args.line.now _ c.in-Some-2.word l none other is)
+returns-then-ne-2-clause-refused g c before has = grind (arith, nil_from_length, read_is, not_the_first)
 
 pub returns-in_default-event_told-clause-refused : goal.returns-in_default-event_told-clause-refused
 returns-in_default-event_told-clause-refused g c before has =

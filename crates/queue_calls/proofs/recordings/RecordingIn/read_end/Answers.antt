@@ -20,24 +20,13 @@ returns-in-Ok-clause-read g c bytes has =
     line_ended g.S.Offered.Fifo.items g.S.Taken.Fifo.items g.S.Bytes.Store.items c.args.self.now _ bytes c.args.end.now has l (ap (λ (t : List ℕ). t ++ c.args.end.now) none ∙ on.1) none (omega (arith, has.begins.within, ap length none)) lines
 
 pub returns-clause-read : goal.returns-clause-read
-returns-clause-read g c bytes has =
-    let (l, on, lines) = c.in_ok-read.ensures.read has.ended has.lines in
-    line_ended g.S.Offered.Fifo.items g.S.Taken.Fifo.items g.S.Bytes.Store.items c.args.self.now _ bytes c.args.end.now has l (sym (c.as_slice.ensures ∙ c.in_ok-extend_from_slice.ensures.items) ∙ on.1) c.clear.ensures.items refl lines
+returns-clause-read g c bytes has = grind (arith, line_ended)
 
 pub returns-in-Err-clause-refused : goal.returns-in-Err-clause-refused
-returns-in-Err-clause-refused g c bytes more has =
-    let cut : List ℕ = (g.S.Bytes.Store.items c.args.self.now.cut) in
-    let none : cut ≡ [] = nil_from_length cut (eqb-true _ 0 (sym c.is_empty.ensures ∙ c.if-is_empty.true)) in
-    end_refused c.in-Err.fault has.ended bytes cut c.args.end.now more has.text has.lines.are has.no_feed c.requires
-    (subst (λ t. RefusesLine c.in-Err.fault has.ended t) (sym (ap (λ (t : List ℕ). t ++ c.args.end.now) none)) (c.in-Err.ensures.refused has.ended has.lines))
+returns-in-Err-clause-refused g c bytes more has = grind (arith, nil_from_length, eqb-true, end_refused)
 
 pub returns-in_err-read-clause-refused : goal.returns-in_err-read-clause-refused
-returns-in_err-read-clause-refused g c =
-    let refused : (bytes more : List ℕ) → HasRead g.S.Offered.Fifo.items g.S.Taken.Fifo.items g.S.Bytes.Store.items c.args.self.now bytes → RefusesText c.in_err-read.field-0.0 (bytes ++ (c.args.end.now ++ 10 ∷ more)) =
-    λ bytes more has.
-    end_refused c.in_err-read.field-0.0 has.ended bytes (g.S.Bytes.Store.items c.args.self.now.cut) c.args.end.now more has.text has.lines.are has.no_feed c.requires
-    (subst (λ t. RefusesLine c.in_err-read.field-0.0 has.ended t) (c.as_slice.ensures ∙ c.in_ok-extend_from_slice.ensures.items) (c.in_err-read.ensures.refused has.ended has.lines)) in
-    search (rules, refused)
+returns-in_err-read-clause-refused g c = grind (arith, end_refused)
 
 pub returns-in-Err-clause-full : goal.returns-in-Err-clause-full
 returns-in-Err-clause-full g c short bytes has =

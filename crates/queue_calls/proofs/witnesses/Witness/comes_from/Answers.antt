@@ -10,15 +10,7 @@ returns-then-at-item g c =
     comes_here c.args.item c.args.place i entries c.loop-index.invariant c.at.result c.at.ensures few c.if-at-item.true
 
 pub loop-index-preserved : goal.loop-index-preserved
-loop-index-preserved g c =
-    let entries = g.S.Offered.Fifo.items c.args.self.now.auditor.inside.list in
-    let i = c.loop-index.index in
-    let few : i < length entries = omega (arith, c.len-index-end.ensures.entries) in
-    comes_on c.args.item c.args.place i entries c.loop-index.invariant c.at.result c.at.ensures few c.if-at-item.false
+loop-index-preserved g c = grind (arith, length, comes_on)
 
 pub returns : goal.returns
-returns g c =
-    let entries = g.S.Offered.Fifo.items c.args.self.now.auditor.inside.list in
-    let i = c.loop-index.index in
-    let past : length entries ≤ i = omega (arith, c.len-index-end.ensures.entries) in
-    comes_not c.args.item c.args.place i entries c.loop-index.invariant past
+returns g c = grind (arith, length, comes_not)

@@ -4,16 +4,10 @@ use Rattle.queue_calls.proofs.LastOnes.{last_is, last_before, last_none}
 use Rattle.queue_calls.proofs.witnesses.Witness.last_taken_of.Goals as goal
 
 pub returns-then-taken-item : goal.returns-then-taken-item
-returns-then-taken-item g c =
-    let all = g.S.Taken.Fifo.items c.args.self.now.taken in
-    let within : c.loop-place.place ≤ length all = omega (arith, c.len-place.ensures) in
-    last_is c.args.item c.loop-place.place all c.loop-place.invariant c.in-Some.taken.now c.loop-place-test.true within c.in-Some.ensures.1 c.if-taken-item.true
+returns-then-taken-item g c = grind (arith, length, last_is)
 
 pub loop-place-preserved-else-taken-item : goal.loop-place-preserved-else-taken-item
-loop-place-preserved-else-taken-item g c =
-    let all = g.S.Taken.Fifo.items c.args.self.now.taken in
-    let within : c.loop-place.place ≤ length all = omega (arith, c.len-place.ensures) in
-    last_before c.args.item c.loop-place.place all c.loop-place.invariant c.in-Some.taken.now c.loop-place-test.true within c.in-Some.ensures.1 c.if-taken-item.false
+loop-place-preserved-else-taken-item g c = grind (arith, length, last_before)
 
 pub loop-place-preserved : goal.loop-place-preserved
 loop-place-preserved g c = absurd (grind (arith, nat_tests, c.in_default.ensures.0))
