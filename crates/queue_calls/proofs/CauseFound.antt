@@ -40,7 +40,7 @@ take_of turn n e = grind arith
 
 -- the numbers of items that the put under way offers, or that the take asks for
 pub offers_so_many : {n m inside : ℕ} {put : PutTurn} → call_of_put put ≡ APut n → put ≡ Offers m inside → m ≡ n
-offers_so_many {n} {m} turn is = let same : APut m ≡ APut n = ap call_of_put (sym is) ∙ turn in cc
+offers_so_many turn is = grind arith
 
 pub wants_so_many : {n m inside : ℕ} {closed : Bool} {turn : TakeTurn} → call_of_take turn ≡ ATake n → turn ≡ Waits m inside closed → m ≡ n
 wants_so_many {n} {m} call is = let same : ATake m ≡ ATake n = ap call_of_take (sym is) ∙ call in cc
@@ -60,24 +60,14 @@ pub items_next :
     AreNext items (items_of rest) × (fewer_cause capacity (length first + length items) why past ≡ None)
 items_next limit capacity why past first [] rest e = grind (arith, length)
 items_next limit capacity why past first (item ∷ items) [] e = absurd cc
-items_next limit capacity why past first (item ∷ items) (next ∷ rest) e =
-    let count : length (first ++ item ∷ []) + length items ≡ length first + suc (length items) = omega (arith, length-append first (item ∷ [])) in
-    let (same, f) = some_else _ _ _ (λ g. some_both _ _ _ g) e in
-    let ((left, g), h) = items_next limit capacity why past (first ++ item ∷ []) items rest f in (
-      (left, ap (λ z. next.item ∷ z) g ∙ ap (λ z. z ∷ (items ++ left)) (eqb-true next.item item same)),
-      subst (λ z. fewer_cause capacity z why past ≡ None) count h,
-    )
+items_next limit capacity why past first (item ∷ items) (next ∷ rest) e = grind (arith, length-append first (item ∷ []), eqb-true, items_next limit capacity why past (first ++ item ∷ []) items rest)
 
 pub items_unspoken :
     (limit : ℕ) (capacity : Capacity) (why : Bool) (past : List Event) (first items : List ℕ) (rest : List Offered) → AreNext items (items_of rest) →
     fewer_cause capacity (length first + length items) why past ≡ None → items_cause limit capacity why past first items rest ≡ None
 items_unspoken limit capacity why past first [] rest next e = grind (arith, length)
 items_unspoken limit capacity why past first (item ∷ items) [] (left, g) e = absurd cc
-items_unspoken limit capacity why past first (item ∷ items) (next ∷ rest) (left, g) e =
-    let same : next.item ≡ item = cc in
-    let others : items_of rest ≡ items ++ left = cc in
-    let count : length first + suc (length items) ≡ length (first ++ item ∷ []) + length items = omega (arith, length-append first (item ∷ [])) in
-    cond-true _ _ _ (eq-eqb next.item item same) ∙ items_unspoken limit capacity why past (first ++ item ∷ []) items rest (left, others) (subst (λ z. fewer_cause capacity z why past ≡ None) count e)
+items_unspoken limit capacity why past first (item ∷ items) (next ∷ rest) (left, g) e = grind (arith, length-append first (item ∷ []), eq-eqb, items_unspoken limit capacity why past (first ++ item ∷ []) items rest)
 
 module _ (capacity : Capacity) (past : List Event) (k : Kept) (a : Agrees past k) where
   -- the numbers of a cause, by what is kept
@@ -156,8 +146,7 @@ module _ (capacity : Capacity) (past : List Event) (k : Kept) (a : Agrees past k
   pub drained :
       (n inside : ℕ) (closed : Bool) → k.take ≡ Waits n inside closed → has_told past ≡ false →
       ((has_ended (before_take past) && (n_of past == k_of past)) ≡ false) ↔ (closed ≡ true → 0 < inside)
-  drained n inside closed is not_told =
-      grind (arith, as_take past k a (Waits n inside closed) is, or_left, length k.inside, long past k a, offers_none, ended_grows, cases_Bool, stored_grows past, eqb-false, and_of, both, or_from, and_off, ne_eqb)
+  drained n inside closed is not_told = grind (arith, as_take past k a (Waits n inside closed) is, long past k a, offers_none past k a, ended_grows, stored_grows past, eqb-false, ne_eqb)
 
   -- the items are the next ones
   pub are_next :
@@ -169,10 +158,10 @@ module _ (capacity : Capacity) (past : List Event) (k : Kept) (a : Agrees past k
 
   -- none of a late put was taken
   late_inside : (n : ℕ) → k.put ≡ Late n → nat_lt (n_of past) (k_of past) ≡ false
-  late_inside n is = let f = as_put past k a (Late n) is in le-ltb (n_of past) (k_of past) (omega (arith, long past k a, ap length f.0))
+  late_inside n is = grind (arith, as_put past k a (Late n) is, long past k a, le-ltb)
 
   found_untold : (n inside : ℕ) (closed : Bool) → k.take ≡ Waits n inside closed → (closed ≡ true → 0 < inside) → has_told past ≡ false
-  found_untold n inside closed is found = grind (arith, as_take past k a (Waits n inside closed) is, false_from_ne_true, or_right, stored_grows past, long past k a, length)
+  found_untold n inside closed is found = grind (arith, as_take past k a (Waits n inside closed) is, false_from_ne_true, stored_grows past, long past k a)
 
   -- ---- nothing contradicts an event that can be counted
 
@@ -184,7 +173,6 @@ module _ (capacity : Capacity) (past : List Event) (k : Kept) (a : Agrees past k
       grind (arith, length, length-append, fewer_told, off, false_from_ne_true, are_next, no_more, left_fit, as_take, or_parts, none_found, found_untold, fewer_found, drained)
 
   pub unspoken : (limit : ℕ) (event : Event) (after : Kept) → Counts capacity k event after → cause_of limit capacity event past ≡ None
-  unspoken limit (PutBegin items) after c = refl
   unspoken limit (PutEnd (Passed count why)) after c = elim c [
     | inl (n, inside, is, open', within, lacks, fits) ↦
         off _ _ _ (as_put past k a (Offers n inside) is).1
@@ -196,14 +184,8 @@ module _ (capacity : Capacity) (past : List Event) (k : Kept) (a : Agrees past k
   unspoken limit (PutEnd Short) after c = grind (arith, as_put, length, lacks_room, off, all_inside, none_lack)
   unspoken limit (PutEnd Nothing) after c = grind (arith, off, all_inside, late_inside)
   unspoken limit (PutEnd Shut) after c = grind (arith, cond-true, as_put)
-  unspoken limit CloseBegin after c = refl
-  unspoken limit CloseEnd after c = refl
-  unspoken limit (TakeBegin count) after c = refl
-  unspoken limit (TakeEnd reply) after (n, inside, closed, is, c) = elim c [
-    | inl (open', within, found, next, fits) ↦ taken_unspoken limit n inside closed reply is open' within found next fits.0
-    | inr (shuts, none, begun, e) ↦
-        subst (λ z. cause_of limit capacity (TakeEnd z) past ≡ None) (sym (shut_is reply shuts)) (cond-true _ _ _ (begun_is past k a begun) ∙ none_inside.1 none)
-  ]
+  unspoken limit (TakeEnd reply) after (n, inside, closed, is, c) = grind (arith, taken_unspoken limit n inside closed reply is, shut_is reply, begun_is past k a, none_inside)
+  unspoken limit _ after c = refl
 
 module _ (capacity : Capacity) (past : List Event) (k : Kept) (a : Agrees past k) (few : MayHold capacity (length k.inside - (offered_by k.put + asked_by k.take))) where
   abbrev pub Counted : Event → Type 0
@@ -218,154 +200,74 @@ module _ (capacity : Capacity) (past : List Event) (k : Kept) (a : Agrees past k
   early {A} n is e = both A (has_ended (before_put past)) (as_put past k a (Late n) is).1 e
 
   stored_counted : (count : ℕ) (why : Bool) (n : ℕ) → 0 < count → count ≤ n → call_of_put k.put ≡ APut n → stored_cause capacity count why past ≡ None → Counted (PutEnd (Passed count why))
-  stored_counted count why n some least is e =
-      let (open', e1) = none_off _ _ _ e in
-      let (enough, e2) = none_off _ _ _ e1 in
-      let (fit, e3) = none_off _ _ _ e2 in
-      let (lack, e4) = none_off _ _ _ e3 in
-      elim (put_of k.put n is) [
-        | inl o ↦ (
-            let (inside, is_put) = o in (
-              kept (without (n - count) k.inside) Free k.take k.shut,
-              inl (
-                n,
-                inside,
-                is_put,
-                refl,
-                (some, least),
-                may_lack_more capacity inside count n why ((some_lack capacity past k a n inside count why is_put).0 lack),
-                (((rest_inside capacity past k a n inside count is_put least).0 enough, (stored_fit capacity past k a n inside count is_put least).0 fit), refl),
-              ),
-            ))
-        | inr late ↦ early n late open'
-      ]
+  stored_counted count why n some least is e = elim (put_of k.put n is) [
+    | inl (inside, is_put) ↦ (
+        kept (without (n - count) k.inside) Free k.take k.shut,
+        inl (n, inside, is_put, refl, (some, least), grind (arith, some_lack capacity past k a n inside count why is_put, may_lack_more), (grind (arith, rest_inside capacity past k a n inside count is_put least, stored_fit capacity past k a n inside count is_put least), refl)),
+      )
+    | inr late ↦ early n late (none_off _ _ _ e).0
+  ]
 
   full_counted : (n : ℕ) → call_of_put k.put ≡ APut n → full_cause capacity past ≡ None → Counted (PutEnd Lacked)
-  full_counted n is e =
-      let (open', e1) = none_off _ _ _ e in
-      let (enough, e2) = none_off _ _ _ e1 in
-      let (lack, e3) = none_off _ _ _ e2 in
-      elim (put_of k.put n is) [
-        | inl o ↦ (
-            let (inside, is_put) = o in (
-              kept (without (n - 0) k.inside) Free k.take k.shut,
-              inl (n, inside, is_put, refl, tt, inr ((none_lack capacity past k a n inside 1 is_put).0 lack), (can_end n inside is_put enough, refl)),
-            ))
-        | inr late ↦ early n late open'
-      ]
+  full_counted n is e = elim (put_of k.put n is) [
+    | inl (inside, is_put) ↦ (
+        kept (without (n - 0) k.inside) Free k.take k.shut,
+        inl (n, inside, is_put, refl, tt, grind (arith, none_lack capacity past k a n inside 1 is_put), (grind (arith, can_end n inside is_put), refl)),
+      )
+    | inr late ↦ early n late (none_off _ _ _ e).0
+  ]
 
   put_short_counted : (n : ℕ) → call_of_put k.put ≡ APut n → 1 < n → put_short_cause capacity past ≡ None → Counted (PutEnd Short)
-  put_short_counted n is several e =
-      let (open', e1) = none_off _ _ _ e in
-      let (enough, e2) = none_off _ _ _ e1 in
-      let (lack, e3) = none_off _ _ _ e2 in
-      elim (put_of k.put n is) [
-        | inl o ↦ (
-            let (inside, is_put) = o in
-            let same : length (offers past) ≡ n - 0 = omega (arith, (as_put past k a (Offers n inside) is_put).0) in
-            let lacks : LacksRoom capacity inside (n - 0) = subst (λ z. LacksRoom capacity inside z) same ((none_lack capacity past k a n inside (length (offers past)) is_put).0 lack) in
-            (kept (without (n - 0) k.inside) Free k.take k.shut, inl (n, inside, is_put, refl, several, inr lacks, (can_end n inside is_put enough, refl))))
-        | inr late ↦ early n late open'
-      ]
+  put_short_counted n is several e = elim (put_of k.put n is) [
+    | inl (inside, is_put) ↦ (
+        kept (without (n - 0) k.inside) Free k.take k.shut,
+        inl (n, inside, is_put, refl, several, grind (arith, as_put past k a (Offers n inside) is_put, none_lack capacity past k a n inside (length (offers past)) is_put), (grind (arith, can_end n inside is_put), refl)),
+      )
+    | inr late ↦ early n late (none_off _ _ _ e).0
+  ]
 
   put_nothing_counted : (limit n : ℕ) → call_of_put k.put ≡ APut n → cause_of limit capacity (PutEnd Nothing) past ≡ None → Counted (PutEnd Nothing)
-  put_nothing_counted limit n is e =
-      let (enough, e1) = none_off _ _ _ e in
-      elim (put_of k.put n is) [
-        | inl o ↦ (let (inside, is_put) = o in (kept (without (n - 0) k.inside) Free k.take k.shut, inl (n, inside, is_put, refl, tt, inl refl, (can_end n inside is_put enough, refl))))
-        | inr late ↦ (kept k.inside Free k.take k.shut, inr (n, late, inl refl, refl))
-      ]
+  put_nothing_counted limit n is e = elim (put_of k.put n is) [
+    | inl (inside, is_put) ↦ (kept (without (n - 0) k.inside) Free k.take k.shut, inl (n, inside, is_put, refl, tt, inl refl, (grind (arith, can_end n inside is_put), refl)))
+    | inr late ↦ (kept k.inside Free k.take k.shut, inr (n, late, inl refl, refl))
+  ]
 
   put_closed_counted : (limit n : ℕ) → call_of_put k.put ≡ APut n → cause_of limit capacity (PutEnd Shut) past ≡ None → Counted (PutEnd Shut)
   put_closed_counted limit n is e = elim (put_of k.put n is) [
-    | inl o ↦ (
-        let (inside, is_put) = o in both (Counted (PutEnd Shut)) (has_ended (before_put past)) (none_on _ _ _ e).0 (as_put past k a (Offers n inside) is_put).1)
+    | inl (inside, is_put) ↦ both _ (has_ended (before_put past)) (none_on _ _ _ e).0 (as_put past k a (Offers n inside) is_put).1
     | inr late ↦ (kept k.inside Free k.take k.shut, inr (n, late, inr refl, refl))
   ]
 
   items_counted : (limit : ℕ) (items : List ℕ) (why : Bool) (n : ℕ) → call_of_take k.take ≡ ATake n → 0 < length items → length items ≤ n → cause_of limit capacity (TakeEnd (Passed items why)) past ≡ None → Counted (TakeEnd (Passed items why))
   items_counted limit items why n is some most e =
-      let (inside, closed, is_take) = take_of k.take n is in
-      let (not_told, e1) = none_off _ _ _ e in
-      let (next, e2) = (are_next capacity past k a limit items why).0 e1 in
-      let (found, e3) = none_off _ _ _ e2 in (
+      let (inside, closed, is_take) = take_of k.take n is in (
         kept (drop (length items) k.inside) k.put Rests k.shut,
-        (
-          n,
-          inside,
-          closed,
-          is_take,
-          inl (
-            refl,
-            (some, most),
-            found_fewer inside closed items n why some ((no_more capacity past k a n inside closed (length items) why is_take).0 found),
-            next,
-            ((left_fit capacity past k a (length items)).0 e3, refl),
-          ),
-        ),
+        (n, inside, closed, is_take, inl (grind (arith, are_next capacity past k a limit items why, found_fewer inside closed items n why some, no_more capacity past k a n inside closed (length items) why is_take, left_fit capacity past k a (length items)))),
       )
 
   empty_counted : (n : ℕ) → call_of_take k.take ≡ ATake n → empty_cause capacity past ≡ None → Counted (TakeEnd Lacked)
   empty_counted n is e =
-      let (inside, closed, is_take) = take_of k.take n is in
-      let (not_told, e1) = none_off _ _ _ e in
-      let (none, e2) = none_off _ _ _ e1 in
-      let (not_ended, e3) = none_off _ _ _ e2 in
-      let f = as_take past k a (Waits n inside closed) is_take in
-      let open' : closed ≡ false = f.2 ∙ or_from (has_ended (before_take past)) (has_told past) not_ended not_told in (
+      let (inside, closed, is_take) = take_of k.take n is in (
         kept (drop 0 k.inside) k.put Rests k.shut,
-        (
-          n,
-          inside,
-          closed,
-          is_take,
-          inl (
-            refl,
-            tt,
-            (λ l. (omega (arith, (none_found capacity past k a n inside closed is_take).0 none), λ _ c. both (0 < inside) closed c open')),
-            (k.inside, refl),
-            ((left_fit capacity past k a 0).0 e3, refl),
-          ),
-        ),
+        (n, inside, closed, is_take, inl (grind (arith, as_take past k a (Waits n inside closed) is_take, or_from, none_found capacity past k a n inside closed is_take, left_fit capacity past k a 0))),
       )
 
   take_short_counted : (n : ℕ) → call_of_take k.take ≡ ATake n → 1 < n → take_short_cause capacity past ≡ None → Counted (TakeEnd Short)
   take_short_counted n is several e =
-      let (inside, closed, is_take) = take_of k.take n is in
-      let (not_told, e1) = none_off _ _ _ e in
-      let (fewer, e2) = none_off _ _ _ e1 in
-      let (found, e3) = none_off _ _ _ e2 in (
+      let (inside, closed, is_take) = take_of k.take n is in (
         kept (drop 0 k.inside) k.put Rests k.shut,
-        (
-          n,
-          inside,
-          closed,
-          is_take,
-          inl (
-            refl,
-            several,
-            (λ l. (
-              omega (arith, (fewer_found capacity past k a n inside closed is_take (omega (arith, several))).0 fewer),
-              λ _. (drained capacity past k a n inside closed is_take not_told).0 found,
-            )),
-            (k.inside, refl),
-            ((left_fit capacity past k a 0).0 e3, refl),
-          ),
-        ),
+        (n, inside, closed, is_take, inl (grind (arith, fewer_found capacity past k a n inside closed is_take, drained capacity past k a n inside closed is_take, left_fit capacity past k a 0))),
       )
 
   take_nothing_counted : (n : ℕ) → call_of_take k.take ≡ ATake n → not_taken_cause capacity 0 past ≡ None → Counted (TakeEnd Nothing)
   take_nothing_counted n is e =
-      let (inside, closed, is_take) = take_of k.take n is in (
-        kept (drop 0 k.inside) k.put Rests k.shut,
-        (n, inside, closed, is_take, inl (refl, tt, (λ l. absurd (omega (arith, l))), (k.inside, refl), ((left_fit capacity past k a 0).0 e, refl))),
-      )
+      let (inside, closed, is_take) = take_of k.take n is in
+      (kept (drop 0 k.inside) k.put Rests k.shut, (n, inside, closed, is_take, grind (arith, left_fit capacity past k a 0)))
 
   take_closed_counted : (limit n : ℕ) → call_of_take k.take ≡ ATake n → cause_of limit capacity (TakeEnd Shut) past ≡ None → Counted (TakeEnd Shut)
   take_closed_counted limit n is e =
       let (inside, closed, is_take) = take_of k.take n is in
-      let (begun, e1) = none_on _ _ _ e in
-      (kept [] k.put Rests true, (n, inside, closed, is_take, inr (refl, (none_inside capacity past k a).0 e1, closing past k a begun, refl)))
+      (kept [] k.put Rests true, (n, inside, closed, is_take, grind (arith, none_inside capacity past k a, closing past k a)))
 
   -- ---- an event in turn that nothing contradicts can be counted
 
@@ -379,13 +281,19 @@ module _ (capacity : Capacity) (past : List Event) (k : Kept) (a : Agrees past k
   counted limit (PutEnd Short) next (n, is, several, m) e = put_short_counted n is several e
   counted limit (PutEnd Nothing) next (n, is, w, m) e = put_nothing_counted limit n is e
   counted limit (PutEnd Shut) next (n, is, w, m) e = put_closed_counted limit n is e
-  counted limit CloseBegin next (free, m) e = (kept k.inside (Closes k.shut) k.take k.shut, (free_of k.put free, refl))
-  counted limit CloseEnd next (is, m) e = (kept k.inside Free k.take true, (let (again, g) = close_of k.put is in (again, g, refl)))
+  counted limit CloseBegin next (free, m) e = grind (arith, free_of)
+  counted limit CloseEnd next (is, m) e = grind (arith, close_of)
   counted limit (TakeBegin count) next (rests, some, m) e = grind (arith, length, rest_of, take)
-  counted limit (TakeEnd (Passed items why)) next (n, is, (some, most), m) e = items_counted limit items why n is some most e
+  counted limit (TakeEnd (Passed items why)) next (n, is, (some, most), m) e =
+      let (inside, closed, is_take) = take_of k.take n is in (
+        kept (drop (length items) k.inside) k.put Rests k.shut,
+        (n, inside, closed, is_take, inl (grind (arith, are_next capacity past k a limit items why, found_fewer inside closed items n why some, no_more capacity past k a n inside closed (length items) why is_take, left_fit capacity past k a (length items)))),
+      )
   counted limit (TakeEnd Lacked) next (n, is, w, m) e = empty_counted n is e
   counted limit (TakeEnd Short) next (n, is, several, m) e = take_short_counted n is several e
-  counted limit (TakeEnd Nothing) next (n, is, w, m) e = take_nothing_counted n is e
+  counted limit (TakeEnd Nothing) next (n, is, w, m) e = 
+      let (inside, closed, is_take) = take_of k.take n is in
+      (kept (drop 0 k.inside) k.put Rests k.shut, (n, inside, closed, is_take, grind (arith, left_fit capacity past k a 0)))
   counted limit (TakeEnd Shut) next (n, is, w, m) e = take_closed_counted limit n is e
 
   -- something contradicts an event that cannot be counted

@@ -78,36 +78,24 @@ module _ (capacity : Capacity) {past : List Event} {k : Kept} (a : Agrees past k
     pub stored_over :
         {z : Cause} (count : ℕ) (why : Bool) → count ≤ n → (rest least : ℕ) → rest ≡ n - count → rest ≤ length k.inside → least ≡ (length k.inside - rest) - asked_by k.take → ¬ MayHold capacity least →
         stored_cause capacity count why past ≡ Some z → StoredTooMany least ≡ z
-    stored_over count why few rest least behind l is_least over e =
-        let stored : ℕ = (n_of past + count) - (k_of past + wanted past) in
-        let same : stored ≡ least = least_stored capacity past k a n inside count is few ∙ omega (arith, behind, is_least) in
-        let not_held : can_hold capacity stored ≡ false = (cannot_hold_tells capacity stored).1 (λ h. over (subst (λ y. MayHold capacity y) same h)) in
-        ap StoredTooMany (sym same) ∙ told_on _ _ _ _ (ap not not_held) (told_off _ _ _ _ (none_gone count few (omega (arith, behind, l))) (told_off _ _ _ _ early e))
+    stored_over count why few rest least behind l is_least over e = grind (arith, least_stored capacity past k a n inside count is few, cannot_hold_tells, none_gone count few, early)
 
     pub stored_room :
         {z : Cause} (count : ℕ) (why : Bool) → count ≤ n → (rest least : ℕ) → rest ≡ n - count → rest ≤ length k.inside → least ≡ (length k.inside - rest) - asked_by k.take → MayHold capacity least →
         stored_cause capacity count why past ≡ Some z → OnlySomeWithRoom count inside (line_behind (before_put past)) ≡ z
-    stored_room count why few rest least behind l is_least fits e =
-        let held : MayHold capacity ((length k.inside - (n - count)) - asked_by k.take) = subst (λ y. MayHold capacity y) (omega (arith, behind, is_least)) fits in
-        ap (λ y. OnlySomeWithRoom count y (line_behind (before_put past))) (sym (most_inside capacity past k a n inside is)) ∙
-        told_last _ _ _ (told_off _ _ _ _ ((stored_fit capacity past k a n inside count is few).1 held) (told_off _ _ _ _ (none_gone count few (omega (arith, behind, l))) (told_off _ _ _ _ early e)))
+    stored_room count why few rest least behind l is_least fits e = grind (arith, most_inside capacity past k a n inside is, stored_fit capacity past k a n inside count is few, none_gone count few, early)
 
     pub full_gone : {z : Cause} → length k.inside < n → full_cause capacity past ≡ Some z → NotStoredButTaken (last_taken past) ≡ z
     full_gone l e = told_on _ _ _ _ (all_gone l) (told_off _ _ _ _ early e)
 
     pub full_room : {z : Cause} → n ≤ length k.inside → full_cause capacity past ≡ Some z → FullWithRoom inside (line_behind (before_put past)) ≡ z
-    full_room l e =
-        ap (λ y. FullWithRoom y (line_behind (before_put past))) (sym (most_inside capacity past k a n inside is)) ∙
-        told_last _ _ _ (told_off _ _ _ _ ((all_inside capacity past k a n inside is).1 l) (told_off _ _ _ _ early e))
+    full_room l e = grind (arith, most_inside capacity past k a n inside is, all_inside capacity past k a n inside is, early)
 
     pub short_gone : {z : Cause} → length k.inside < n → put_short_cause capacity past ≡ Some z → NotStoredButTaken (last_taken past) ≡ z
     short_gone l e = told_on _ _ _ _ (all_gone l) (told_off _ _ _ _ early e)
 
     pub short_room : {z : Cause} → n ≤ length k.inside → put_short_cause capacity past ≡ Some z → ShortWithRoom n inside (line_behind (before_put past)) ≡ z
-    short_room l e =
-        ap (λ y. ShortWithRoom y inside (line_behind (before_put past))) (sym offered) ∙
-        ap (λ y. ShortWithRoom (length (offers past)) y (line_behind (before_put past))) (sym (most_inside capacity past k a n inside is)) ∙
-        told_last _ _ _ (told_off _ _ _ _ ((all_inside capacity past k a n inside is).1 l) (told_off _ _ _ _ early e))
+    short_room l e = grind (arith, offered, most_inside capacity past k a n inside is, all_inside capacity past k a n inside is, early)
 
   -- ---- takes
 
@@ -125,12 +113,7 @@ module _ (capacity : Capacity) {past : List Event} {k : Kept} (a : Agrees past k
     ends = (as_take past k a (Waits n before closed) is).2
 
     pub fewer_inside : {z : Cause} (count : ℕ) (why : Bool) → why ≡ true → count < n → count < before → fewer_cause capacity count why past ≡ Some z → NoMoreWhileInside (at (coming past) count) ≡ z
-    fewer_inside count why says l m e =
-        let one : nat_lt count (wanted past) ≡ true = lt-ltb count (wanted past) (omega (arith, l, wants)) in
-        let two : nat_lt (k_of past + count) (n_of (before_take past)) ≡ true = lt-ltb (k_of past + count) (n_of (before_take past)) (omega (arith, m, left)) in
-        told_on _ _ _ _
-        (ap (λ y. y && (nat_lt count (wanted past) && nat_lt (k_of past + count) (n_of (before_take past)))) says ∙
-        (ap (λ y. y && nat_lt (k_of past + count) (n_of (before_take past))) one ∙ two)) e
+    fewer_inside count why says l m e = grind (arith, lt-ltb, wants, left)
 
     pub fewer_left : {z : Cause} (count : ℕ) (why : Bool) → (why ≡ true → count < n → before ≤ count) → fewer_cause capacity count why past ≡ Some z → not_taken_cause capacity count past ≡ Some z
     fewer_left count why f e = told_off _ _ _ _ ((no_more capacity past k a n before closed count why is).1 f) e
@@ -140,13 +123,10 @@ module _ (capacity : Capacity) {past : List Event} {k : Kept} (a : Agrees past k
       empty_inside l e = told_on _ _ _ _ (lt-ltb (k_of past) (n_of (before_take past)) (omega (arith, l, left))) (told_off _ _ _ _ open' e)
 
       late : closed ≡ true → has_ended (before_take past) ≡ true
-      late e = elim (cases_Bool (has_ended (before_take past))) [
-        | inl f ↦ f
-        | inr f ↦ absurd (both ⊥ closed e (ends ∙ or_from (has_ended (before_take past)) (has_told past) f open'))
-      ]
+      late e = grind (arith, ends)
 
       early_take : closed ≡ false → has_ended (before_take past) ≡ false
-      early_take e = false_from_ne_true (has_ended (before_take past)) (λ f. both ⊥ closed (ends ∙ or_left (has_ended (before_take past)) (has_told past) f) e)
+      early_take e = grind (arith, ends)
 
       pub take_ends : closed ≡ true → has_ended past ≡ true
       take_ends e = ended_grows past (late e)
@@ -155,36 +135,17 @@ module _ (capacity : Capacity) {past : List Event} {k : Kept} (a : Agrees past k
       empty_late none e f = told_on _ _ _ _ (late e) (told_off _ _ _ _ ((none_found capacity past k a n before closed is).1 none) (told_off _ _ _ _ open' f))
 
       pub empty_early : {z : Cause} → before ≡ 0 → closed ≡ false → empty_cause capacity past ≡ Some z → not_taken_cause capacity 0 past ≡ Some z
-      empty_early none e f =
-          told_off _ _ _ _ (early_take e) (told_off _ _ _ _ ((none_found capacity past k a n before closed is).1 none) (told_off _ _ _ _ open' f))
+      empty_early none e f = grind (arith, early_take, none_found capacity past k a n before closed is)
 
       pub short_inside : {z : Cause} → 0 < n → n ≤ before → take_short_cause capacity past ≡ Some z → ShortWhileInside (at (coming past) (n - 1)) ≡ z
-      short_inside some l e =
-          let last : ℕ = wanted past - 1 in
-          let same : n - 1 ≡ last = ap (λ y. y - 1) (sym wants) in
-          ap (λ y. ShortWhileInside (at (coming past) y)) same ∙
-          told_on _ _ _ _ (lt-ltb (k_of past + last) (n_of (before_take past)) (omega (arith, l, left, some, wants))) (told_off _ _ _ _ open' e)
+      short_inside some l e = grind (arith, lt-ltb, left, wants)
 
       pub short_late : {z : Cause} → 0 < n → before < n → closed ≡ true → length k.inside ≡ 0 → take_short_cause capacity past ≡ Some z → ShortAfterClose (ended_line past) ≡ z
-      short_late some l e none f =
-          let no_offers : offers past ≡ [] = offers_none past k a (a.ended (take_ends e)) in
-          let same : n_of past ≡ k_of past = omega (arith, none, long past k a, ap length no_offers) in
-          let test : (has_ended (before_take past) && (n_of past == k_of past)) ≡ true =
-          ap (λ y. y && (n_of past == k_of past)) (late e) ∙ eq-eqb (n_of past) (k_of past) same in
-          told_on _ _ _ _ test (told_off _ _ _ _ ((fewer_found capacity past k a n before closed is some).1 l) (told_off _ _ _ _ open' f))
+      short_late some l e none f = grind (arith, offers_none past k a, a.ended, take_ends, late, long past k a, eq-eqb, fewer_found capacity past k a n before closed is some)
 
       pub short_early :
           {z : Cause} → 0 < n → before < n → (closed ≡ true → 0 < length k.inside) → take_short_cause capacity past ≡ Some z → not_taken_cause capacity 0 past ≡ Some z
-      short_early some l inside f =
-          let test : (has_ended (before_take past) && (n_of past == k_of past)) ≡ false = elim (cases_Bool (has_ended (before_take past))) [
-            | inl e ↦ (
-                let is_closed : closed ≡ true = ends ∙ or_left (has_ended (before_take past)) (has_told past) e in
-                let no_offers : offers past ≡ [] = offers_none past k a (a.ended (ended_grows past e)) in
-                let differ : n_of past ≢ k_of past = λ same. omega (arith, inside is_closed, long past k a, ap length no_offers, same) in
-                ap (λ y. y && (n_of past == k_of past)) e ∙ ne_eqb (n_of past) (k_of past) differ)
-            | inr e ↦ ap (λ y. y && (n_of past == k_of past)) e
-          ] in
-          told_off _ _ _ _ test (told_off _ _ _ _ ((fewer_found capacity past k a n before closed is some).1 l) (told_off _ _ _ _ open' f))
+      short_early some l inside f = grind (arith, ends, offers_none past k a, a.ended, ended_grows, long past k a, ne_eqb, fewer_found capacity past k a n before closed is some)
 
   pub closed_inside : {z : Cause} → has_closed k.put k.shut ≡ true → (if has_begun past then closed_cause (coming past) else Some ClosedBeforeClose) ≡ Some z → ClosedWhileInside (at (coming past) 0) ≡ z
   closed_inside {z} e f = grind (arith, begun_is)
