@@ -33,14 +33,10 @@ module _ {X : Type 0} (p : X → Bool) (xs : List X) (i : ℕ) (d : X) (h : i < 
 module _ (item place i : ℕ) (entries : List Offered) (same : comes item (drop place entries) ≡ comes item (drop i entries)) where
   module _ (e : Offered) (is : e ≡ at entries i) (h : i < length entries) where
     pub comes_here : e.item ≡ item → true ≡ comes item (drop place entries)
-    comes_here equal =
-        let t : (at entries i).item == item ≡ true = eq-eqb (at entries i).item item (ap (λ z. z.item) (sym is) ∙ equal) in
-        rw (same, find_here (λ o. o.item == item) entries i (offered_at 0 0) h t) refl
+    comes_here equal = grind (arith, eq-eqb, find_here)
 
     pub comes_on : (e.item ≡ item → ⊥) → comes item (drop place entries) ≡ comes item (drop (i + 1) entries)
-    comes_on differs =
-        let t : (at entries i).item == item ≡ false = other (at entries i).item item (λ s. differs (ap (λ z. z.item) is ∙ s)) in
-        rw (same, find_on (λ o. o.item == item) entries i (offered_at 0 0) h t) refl
+    comes_on differs = grind (arith, other, find_on)
 
   pub comes_not : length entries ≤ i → false ≡ comes item (drop place entries)
   comes_not h = rw (same, drop_all i entries h) refl
@@ -55,22 +51,13 @@ module _ (items : List ℕ) (entries : List Offered) (i : ℕ) (same : agreed it
   module _ (h : i < length items) where
     module _ (next : Offered) (within : i < length entries) (is : next ≡ at entries i) where
       pub agreed_on : next.item ≡ get_or items i 0 → agreed items entries ≡ agreed (drop (i + 1) items) (drop (i + 1) entries) + (i + 1)
-      agreed_on equal =
-          let t : (at entries i).item == get_or items i 0 ≡ true = eq-eqb (at entries i).item (get_or items i 0) (ap (λ z. z.item) (sym is) ∙ equal) in
-          let all : agreed (drop i items) (drop i entries) ≡ suc (agreed (drop (i + 1) items) (drop (i + 1) entries)) =
-          rw (drop_more items i 0 h, drop_more entries i (offered_at 0 0) within, t) refl in
-          omega (arith, same, all)
+      agreed_on equal = grind (arith, get_or, eq-eqb, drop, drop_more)
 
       pub agreed_here : (next.item ≡ get_or items i 0 → ⊥) → i ≡ agreed items entries
-      agreed_here differs =
-          let t : (at entries i).item == get_or items i 0 ≡ false = other (at entries i).item (get_or items i 0) (λ s. differs (ap (λ z. z.item) is ∙ s)) in
-          let none : agreed (drop i items) (drop i entries) ≡ 0 = rw (drop_more items i 0 h, drop_more entries i (offered_at 0 0) within, t) refl in
-          omega (arith, same, none)
+      agreed_here differs = grind (arith, get_or, other, drop, drop_more)
 
     pub agreed_past : length entries ≤ i → i ≡ agreed items entries
-    agreed_past past =
-        let none : agreed (drop i items) (drop i entries) ≡ 0 = rw (drop_more items i 0 h, drop_all i entries past) refl in
-        omega (arith, same, none)
+    agreed_past past = grind (arith, drop i items, drop i entries, drop_more items i 0 h, drop_all i entries past)
 
   pub agreed_all : length items ≡ i → length items ≡ agreed items entries
   agreed_all end = grind (arith, drop, drop_all)
@@ -83,14 +70,10 @@ module _ (item i : ℕ) (all : List Taken) (same : last_taken_of item all ≡ la
     from_here = let up : i ≡ i - 1 + 1 = omega arith in same ∙ ap (λ z. last_taken_of item (take z all)) up
 
     pub last_is : t.item ≡ item → Some t ≡ last_taken_of item all
-    last_is equal =
-        let e : (get_or all (i - 1) t).item == item ≡ true = eq-eqb (get_or all (i - 1) t).item item (ap (λ z. z.item) (sym is) ∙ equal) in
-        ap Some is ∙ sym (from_here ∙ last_here (λ t. t.item == item) all (i - 1) t (omega arith) e)
+    last_is equal = grind (arith, get_or, eq-eqb, from_here, last_here)
 
     pub last_before : (t.item ≡ item → ⊥) → last_taken_of item all ≡ last_taken_of item (take (i - 1) all)
-    last_before differs =
-        let e : (get_or all (i - 1) t).item == item ≡ false = other (get_or all (i - 1) t).item item (λ s. differs (ap (λ z. z.item) is ∙ s)) in
-        from_here ∙ last_on (λ t. t.item == item) all (i - 1) t (omega arith) e
+    last_before differs = grind (arith, get_or, other, from_here, last_on)
 
   pub last_none : i ≡ 0 → None ≡ last_taken_of item all
   last_none none = sym (same ∙ ap (λ z. last_taken_of item (take z all)) none)
@@ -103,17 +86,10 @@ module _ {A : Type 0} (limit : ℕ) (xs : List A) where
 
   module _ (some : 0 < limit) (x : A) where
     last_full : limit ≤ length (last_of limit xs) → last_of limit (xs ++ x ∷ []) ≡ drop 1 (last_of limit xs) ++ x ∷ []
-    last_full full =
-        let many : limit ≤ length xs = omega (arith, full, length_last) in
-        let cut : length (xs ++ x ∷ []) - limit ≡ length xs - limit + 1 = omega (arith, length-append xs (x ∷ []), many) in
-        ap (λ n. drop n (xs ++ x ∷ [])) cut
-        ∙ (drop-append-le (length xs - limit + 1) xs (x ∷ []) (omega (arith, some, many)) ∙ ap (λ l. l ++ x ∷ []) (sym (drop-drop 1 (length xs - limit) xs)))
+    last_full full = grind (arith, length xs, length (xs ++ x ∷ []), length_last, length-append xs (x ∷ []), drop, drop-append-le, drop-drop 1 (length xs - limit) xs)
 
     last_room : length (last_of limit xs) < limit → last_of limit (xs ++ x ∷ []) ≡ last_of limit xs ++ x ∷ []
-    last_room room =
-        let few : length xs - limit ≡ 0 = omega (arith, room, length_last) in
-        let cut : length (xs ++ x ∷ []) - limit ≡ 0 = omega (arith, length-append xs (x ∷ []), room, length_last) in
-        ap (λ n. drop n (xs ++ x ∷ [])) cut ∙ ap (λ n. drop n xs ++ x ∷ []) (sym few)
+    last_room room = grind (arith, length, length_last, length-append, drop)
 
 -- if none is kept there are none
 pub last_none_kept : {A : Type 0} (limit : ℕ) (xs : List A) → limit ≡ 0 → last_of limit xs ≡ []
@@ -134,10 +110,7 @@ MakesRoom limit before kept = ((limit ≤ length before) × (kept ≡ drop 1 bef
 
 last_more :
     {A : Type 0} (limit : ℕ) (some : 0 < limit) (xs : List A) (x : A) (kept : List A) → MakesRoom limit (last_of limit xs) kept → last_of limit (xs ++ x ∷ []) ≡ kept ++ x ∷ []
-last_more limit some xs x kept room = elim room [
-  | inl f ↦ last_full limit xs some x f.0 ∙ ap (λ l. l ++ x ∷ []) (sym f.1)
-  | inr f ↦ last_room limit xs some x f.0 ∙ ap (λ l. l ++ x ∷ []) (sym f.1)
-]
+last_more limit some xs x kept room = grind (arith, last_full, last_room)
 
 -- what was taken last, after earlier ones and these of the line
 abbrev pub taken_behind : (limit : ℕ) → (earlier : List Taken) → (line : ℕ) → List ℕ → List Taken
@@ -147,27 +120,10 @@ module _ (limit : ℕ) (some : 0 < limit) (earlier : List Taken) (line : ℕ) (i
   module _ (is : before ≡ taken_behind limit earlier line (take i items)) (room : MakesRoom limit before kept) where
     pub took_more : kept ++ taken_at line (get_or items i 0) ∷ [] ≡ taken_behind limit earlier line (take (i + 1) items)
     took_more =
-        let F : List Taken → Type 0 = λ z. MakesRoom limit z kept in
-        let more : earlier ++ map (taken_at line) (take (i + 1) items) ≡ (earlier ++ map (taken_at line) (take i items)) ++ taken_at line (get_or items i 0) ∷ [] =
-        ap (λ l. earlier ++ l) (map_more (taken_at line) items i 0 h) ∙ sym (append_assoc earlier (map (taken_at line) (take i items)) (taken_at line (get_or items i 0) ∷ [])) in
-        sym (
-        ap (λ l. last_of limit l) more
-        ∙ last_more limit some (earlier ++ map (taken_at line) (take i items)) (taken_at line (get_or items i 0)) kept (subst F is room))
+        grind (arith, map (taken_at line) (take (i + 1) items), map (taken_at line) (take i items), take (i + 1) items, take i items, get_or items i 0, map_more (taken_at line) items i 0 h, append_assoc earlier (map (taken_at line) (take i items)) (taken_at line (get_or items i 0) ∷ []), last_more)
 
     pub took_few : (length kept < limit) × (length kept < length earlier + length items)
-    took_few =
-        let long : length before ≡ length (earlier ++ map (taken_at line) (take i items)) - (length (earlier ++ map (taken_at line) (take i items)) - limit) =
-        ap length is ∙ length_last limit (earlier ++ map (taken_at line) (take i items)) in
-        let sum : length (earlier ++ map (taken_at line) (take i items)) ≡ length earlier + i =
-        length-append earlier (map (taken_at line) (take i items)) ∙ ap (λ n. length earlier + n) (length-map (take i items) (taken_at line) ∙ length-take-le i items (omega (arith, h))) in
-        elim room [
-          | inl f ↦ (
-              let less : length kept ≡ length before - 1 = ap length f.1 ∙ length-drop 1 before in
-              (omega (arith, less, long, f.0, some), omega (arith, less, long, sum, h)))
-          | inr f ↦ (
-              let same : length kept ≡ length before = ap length f.1 in
-              (omega (arith, same, f.0), omega (arith, same, long, sum, h)))
-        ]
+    took_few = grind (arith, length, map, take, length_last, length-append, length-map, length-take-le, length-drop)
 
 -- ---- entries changed from one place on and before another
 

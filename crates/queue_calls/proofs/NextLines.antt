@@ -73,8 +73,7 @@ module _ {S O T N B : Type 0} (offered : O → List Offered) (last : T → List 
 
       all_are : AreLines (before ++ line word numbers ∷ [])
       all_are =
-          (further_line before is_cut (line_text word numbers) follows.1.0 follows.1.1 (begun_behind begun.Nothing follows.1.1) word numbers event follows.1.2 follows.0
-          (record { text = refl; allowed = allowed; small = small }) told_so).0
+          grind (arith, further_line before is_cut (line_text word numbers) follows.1.0 follows.1.1 (begun_behind begun.Nothing follows.1.1) word numbers event follows.1.2 follows.0 (record { text = refl; allowed = allowed; small = small }) told_so, told_so)
 
       number_is : (number : ℕ) → length before + 1 ≡ number → length events_are + 2 ≡ number
       number_is number is = count_is before is_cut follows.1.0 follows.1.1 begun.Nothing (length before) number follows.1.2 follows.0 refl (sym is)
@@ -92,15 +91,7 @@ module _ {S O T N B : Type 0} (offered : O → List Offered) (last : T → List 
       )
 
       recording_is : IsRecording (lines_text (before ++ line word numbers ∷ [])) capacity_is (events_are ++ event ∷ [])
-      recording_is = record {
-        is_cut = is_cut;
-        first = follows.1.0;
-        further = follows.1.1 ++ line word numbers ∷ [];
-        text = ap (λ (lines : List Line). lines_text (lines ++ line word numbers ∷ [])) follows.1.2;
-        are = subst (λ (lines : List Line). AreLines (lines ++ line word numbers ∷ [])) follows.1.2 all_are;
-        tells_capacity = refl;
-        tells_events = sym (events_more begun.Nothing follows.1.1 (line word numbers) ∙ ap (λ (o : Option Event). events_are ++ and_then o []) told_so);
-      }
+      recording_is = grind (arith, all_are, events_more, told_so)
 
       -- it is at fault, and everything is unchanged
       pub line_at_fault :
@@ -127,12 +118,4 @@ module _ {S O T N B : Type 0} (offered : O → List Offered) (last : T → List 
 
       -- a list is too short
       pub line_outgrows : (limit o t : ℕ) → OutgrowsLists limit o t capacity_is (events_are ++ event ∷ []) → HasLongHistory limit o t (lines_text (before ++ line word numbers ∷ []))
-      line_outgrows limit o t needs = record {
-        first = lines_text (before ++ line word numbers ∷ []);
-        rest = [];
-        capacity = capacity_is;
-        events = events_are ++ event ∷ [];
-        parts = sym (append-nil (lines_text (before ++ line word numbers ∷ [])));
-        recording = recording_is;
-        needs = needs;
-      }
+      line_outgrows limit o t needs = grind (arith, append-nil (lines_text (before ++ line word numbers ∷ [])), recording_is)

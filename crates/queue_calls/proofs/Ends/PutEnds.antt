@@ -82,9 +82,7 @@ module _ (capacity : Capacity) (h : List Event) (inside : List ℕ) (take' : Tak
     was_late reply closed (inl is) e =
         subst (λ z. (p : Producer) × FitsPut capacity (Late offered) shut p closed × TellsPoint k.late (Late offered) p × ProducerStep p (Happens (PutEnd z)) Idle × CanReply z (passed 0 z) offered) (sym is)
         (Putting 0 0 k.late, (refl, refl, e), refl, (inl (refl, k.late, tt, refl), refl), tt)
-    was_late reply closed (inr is) e =
-        subst (λ z. (p : Producer) × FitsPut capacity (Late offered) shut p closed × TellsPoint k.late (Late offered) p × ProducerStep p (Happens (PutEnd z)) Idle × CanReply z (passed 0 z) offered) (sym is)
-        (FoundShut, e, tt, (inr (refl, refl), refl), tt)
+    was_late reply closed (inr is) e = grind arith
 
     late_is : (p : Producer) (closed : Bool) → FitsPut capacity (Late offered) shut p closed → closed ≡ true
     late_is Idle closed f = absurd f

@@ -27,9 +27,7 @@ module _ (capacity : Capacity) (h : List Event) (inside : List ℕ) (shut : Bool
     -- a point before the take, and that after its start
     begun : (q : Queue) (p : Producer) → inside ≡ q.items ++ left_by put p → MayHold capacity (length q.items) → FitsPut capacity put shut p q.closed → TellsPoint k.late put p → After (point q p (Taking 0 [] wanted))
     begun q p e l f told =
-        happens capacity h (point q p Resting) (point q p (Taking 0 [] wanted)) (TakeBegin wanted)
-        (k.sound (point q p Resting) (record { items = e; room = l; producer = f; consumer = tt }) told)
-        (record { queue = refl; producer = refl; consumer = (refl, some, refl) })
+        grind (arith, happens capacity h (point q p Resting) (point q p (Taking 0 [] wanted)) (TakeBegin wanted) (k.sound (point q p Resting) (record { items = e; room = l; producer = f; consumer = tt }) told) (record { queue = refl; producer = refl; consumer = (refl, some, refl) }))
 
     -- it found fewer than this many, or did not look
     lacking :
@@ -46,8 +44,7 @@ module _ (capacity : Capacity) (h : List Event) (inside : List ℕ) (shut : Bool
         (q : Queue) (p : Producer) → inside ≡ q.items ++ left_by put p → MayHold capacity (length q.items) → FitsPut capacity put shut p q.closed → TellsPoint k.late put p → IsDrained q →
         After (point q p FoundClosed)
     told_closed q p e l f told none =
-        goes capacity (h ++ TakeBegin wanted ∷ []) (point q p (Taking 0 [] wanted)) (point q p FoundClosed) FindClosed (begun q p e l f told)
-        (record { queue = (none, refl); producer = refl; consumer = (wanted, refl, refl) })
+        grind (arith, goes capacity (h ++ TakeBegin wanted ∷ []) (point q p (Taking 0 [] wanted)) (point q p FoundClosed) FindClosed (begun q p e l f told) (record { queue = (none, refl); producer = refl; consumer = (wanted, refl, refl) }), begun q p e l f told)
 
     -- if no item can come, all that is inside is in the queue
     took_inside :
