@@ -1,14 +1,14 @@
 -- What is kept of a history keeps agreeing with the past, and what follows from that.
-use Rattle.std.proofs.Common.{◌≡◌, ◌⊎◌, inl, inr, ℕ, ◌+◌, ◌-◌, ◌≤◌, Bool, true, false, ◌||◌, List, [], ◌∷◌, ◌++◌, map, length, take, drop, reverse, if◌then◌else◌, refl, sym, ap, subst, ◌∙◌, arith, length-append, append_assoc, append-nil}
+use Rattle.std.proofs.Common.{◌≡◌, ◌⊎◌, inl, inr, ℕ, ◌+◌, ◌-◌, ◌≤◌, Bool, true, false, ◌||◌, List, [], ◌∷◌, ◌++◌, map, length, take, drop, reverse, refl, sym, ap, subst, ◌∙◌, arith, length-append, append_assoc, append-nil}
 use Rattle.std.proofs.lemmas.Bool.{or_left, or_parts}
 use Rattle.std.proofs.lemmas.List.{length-map, map-append, take-map, drop-map, reverse-append}
 use Rattle.std.proofs.Math.Seq.{take-append-add, take-nil, drop-append_seam}
 use Rattle.queue_calls.specs.Queue.{Capacity}
-use Rattle.queue_calls.specs.Calls.{Event, PutBegin, PutEnd, CloseBegin, CloseEnd, TakeBegin, TakeEnd, Reply, Shut, passed, is_shut}
+use Rattle.queue_calls.specs.Calls.{Event, PutBegin, PutEnd, CloseBegin, CloseEnd, TakeBegin, TakeEnd, Reply, passed, is_shut}
 use Rattle.queue_calls.specs.State.{AreNext, offered_by, asked_by, has_closed}
 use Rattle.queue_calls.specs.Counting.{Kept, kept, without, Counts}
 use Rattle.call_causes.specs.declared.entries.Offered.{Offered}
-use Rattle.queue_calls.proofs.Agrees.{PutFits, PutAgrees, TakeAgrees, Agrees}
+use Rattle.queue_calls.proofs.Agrees.{PutAgrees, TakeAgrees, Agrees}
 use Rattle.queue_calls.proofs.Replies.{few, shut_is, told_on}
 use Rattle.queue_calls.specs.Reasons.{line_behind, has_begun, has_ended, has_told, before_take, offered_at, stored_at, taken_at, offers, stored, taken, wanted, n_of, k_of, coming, items_of}
 use Rattle.queue_calls.specs.declared.turns.PutTurn.{PutTurn}

@@ -1,8 +1,8 @@
 -- Nothing contradicts an event after a past exactly when the event can be counted.
 use Rattle.std.proofs.Common.{◌≡◌, ◌↔◌, ◌⊎◌, inl, inr, ℕ, suc, ◌+◌, ◌-◌, ◌<◌, ◌≤◌, nat_lt, Bool, true, false, ◌==◌, not, ◌&&◌, Some, None, List, [], ◌∷◌, ◌++◌, map, length, take, drop, reverse, refl, sym, ap, subst, ◌∙◌, arith, length-append, append_assoc, append-nil}
-use Rattle.std.proofs.lemmas.Bool.{false_from_ne_true, or_left, or_right, or_from, or_parts, not-false, not_from_true, ltb-true, ltb-false, lt-ltb, le-ltb, eqb-true, eqb-false, eq-eqb, ne_eqb, cond-true, cases_Bool}
+use Rattle.std.proofs.lemmas.Bool.{false_from_ne_true, or_from, or_parts, not-false, not_from_true, ltb-true, ltb-false, lt-ltb, le-ltb, eqb-true, eqb-false, eq-eqb, ne_eqb, cond-true, cases_Bool}
 use Rattle.std.proofs.lemmas.Option.{none-some}
-use Rattle.queue_calls.specs.Queue.{Capacity, Unbounded, Between, LacksRoom}
+use Rattle.queue_calls.specs.Queue.{Capacity, LacksRoom}
 use Rattle.queue_calls.specs.Calls.{Event, PutBegin, PutEnd, CloseBegin, CloseEnd, TakeBegin, TakeEnd, Reply, Passed, Lacked, Short, Nothing, Shut, passed, is_shut, CanReply, lacked_by, IsLinearizable}
 use Rattle.queue_calls.specs.InTurn.{NoCall, APut, AClose, ATake, Sides, sides, MovesSides}
 use Rattle.queue_calls.specs.State.{IsProper, MayHold, AreNext, CanEndPut, CanEndTake, offered_by, asked_by, call_of_put, call_of_take, sides_of}
@@ -16,7 +16,7 @@ use Rattle.queue_calls.specs.declared.turns.TakeTurn.{TakeTurn}
 use Rattle.queue_calls.specs.declared.turns.TakeTurn.TheVariants.{Rests, Waits}
 use Rattle.queue_calls.proofs.Agrees.{Agrees}
 use Rattle.queue_calls.proofs.Agreeing.{both, long, offered_is, asked_is, coming_is, begun_is, as_put, as_take, closing, turned_behind, step, at_first, offers_none, ended_grows}
-use Rattle.queue_calls.proofs.CauseTests.{can_hold_tells, can_lack_tells, and_off, and_of, and_told, none_off, off, none_on, some_else, some_both, some_or}
+use Rattle.queue_calls.proofs.CauseTests.{can_hold_tells, can_lack_tells, and_off, and_of, and_told, none_off, off, none_on, some_or}
 use Rattle.queue_calls.proofs.CountedHistories.{Stands, counts_keeps}
 use Rattle.queue_calls.proofs.CountsFollow.{counts_are_exact}
 use Rattle.queue_calls.proofs.Ends.TakeBegins.{keeps_nothing}
@@ -202,27 +202,27 @@ module _ (capacity : Capacity) (past : List Event) (k : Kept) (a : Agrees past k
   stored_counted : (count : ℕ) (why : Bool) (n : ℕ) → 0 < count → count ≤ n → call_of_put k.put ≡ APut n → stored_cause capacity count why past ≡ None → Counted (PutEnd (Passed count why))
   stored_counted count why n some least is e = elim (put_of k.put n is) [
     | inl (inside, is_put) ↦ (
-        kept (without (n - count) k.inside) Free k.take k.shut,
-        inl (n, inside, is_put, refl, (some, least), grind (arith, some_lack capacity past k a n inside count why is_put, may_lack_more), (grind (arith, rest_inside capacity past k a n inside count is_put least, stored_fit capacity past k a n inside count is_put least), refl)),
-      )
+      kept (without (n - count) k.inside) Free k.take k.shut,
+      inl (n, inside, is_put, refl, (some, least), grind (arith, some_lack capacity past k a n inside count why is_put, may_lack_more), (grind (arith, rest_inside capacity past k a n inside count is_put least, stored_fit capacity past k a n inside count is_put least), refl)),
+    )
     | inr late ↦ early n late (none_off _ _ _ e).0
   ]
 
   full_counted : (n : ℕ) → call_of_put k.put ≡ APut n → full_cause capacity past ≡ None → Counted (PutEnd Lacked)
   full_counted n is e = elim (put_of k.put n is) [
     | inl (inside, is_put) ↦ (
-        kept (without (n - 0) k.inside) Free k.take k.shut,
-        inl (n, inside, is_put, refl, tt, grind (arith, none_lack capacity past k a n inside 1 is_put), (grind (arith, can_end n inside is_put), refl)),
-      )
+      kept (without (n - 0) k.inside) Free k.take k.shut,
+      inl (n, inside, is_put, refl, tt, grind (arith, none_lack capacity past k a n inside 1 is_put), (grind (arith, can_end n inside is_put), refl)),
+    )
     | inr late ↦ early n late (none_off _ _ _ e).0
   ]
 
   put_short_counted : (n : ℕ) → call_of_put k.put ≡ APut n → 1 < n → put_short_cause capacity past ≡ None → Counted (PutEnd Short)
   put_short_counted n is several e = elim (put_of k.put n is) [
     | inl (inside, is_put) ↦ (
-        kept (without (n - 0) k.inside) Free k.take k.shut,
-        inl (n, inside, is_put, refl, several, grind (arith, as_put past k a (Offers n inside) is_put, none_lack capacity past k a n inside (length (offers past)) is_put), (grind (arith, can_end n inside is_put), refl)),
-      )
+      kept (without (n - 0) k.inside) Free k.take k.shut,
+      inl (n, inside, is_put, refl, several, grind (arith, as_put past k a (Offers n inside) is_put, none_lack capacity past k a n inside (length (offers past)) is_put), (grind (arith, can_end n inside is_put), refl)),
+    )
     | inr late ↦ early n late (none_off _ _ _ e).0
   ]
 
@@ -291,7 +291,7 @@ module _ (capacity : Capacity) (past : List Event) (k : Kept) (a : Agrees past k
       )
   counted limit (TakeEnd Lacked) next (n, is, w, m) e = empty_counted n is e
   counted limit (TakeEnd Short) next (n, is, several, m) e = take_short_counted n is several e
-  counted limit (TakeEnd Nothing) next (n, is, w, m) e = 
+  counted limit (TakeEnd Nothing) next (n, is, w, m) e =
       let (inside, closed, is_take) = take_of k.take n is in
       (kept (drop 0 k.inside) k.put Rests k.shut, (n, inside, closed, is_take, grind (arith, left_fit capacity past k a 0)))
   counted limit (TakeEnd Shut) next (n, is, w, m) e = take_closed_counted limit n is e

@@ -1,15 +1,15 @@
 -- What is reported from what is kept is what the past says.
-use Rattle.std.proofs.Common.{◌≡◌, ◌≢◌, inl, inr, ℕ, suc, ◌+◌, ◌-◌, ◌<◌, ◌≤◌, nat_lt, Bool, true, false, ◌==◌, not, ◌&&◌, ◌||◌, if◌then◌else◌, Option, Some, None, List, [], ◌∷◌, ◌++◌, length, take, drop, get_or, refl, sym, ap, subst, ◌∙◌, arith, append_assoc, append-nil}
+use Rattle.std.proofs.Common.{◌≡◌, ℕ, suc, ◌+◌, ◌-◌, ◌<◌, ◌≤◌, nat_lt, Bool, true, false, ◌==◌, ◌||◌, if◌then◌else◌, Option, Some, None, List, [], ◌∷◌, ◌++◌, length, take, drop, get_or, refl, sym, ap, arith, append_assoc, append-nil}
 use Rattle.std.specs.List.{list_any}
 use Rattle.std.specs.Prelude.{unwrap_or, find, map, nat_eq}
 use Rattle.std.proofs.Math.Seq.{drop-cons}
 use Rattle.std.proofs.lemmas.List.{drop_all, length-take-le, take_all}
-use Rattle.std.proofs.lemmas.Bool.{or_from, or_left, eqb-true, lt-ltb, eq-eqb, ne_eqb, false_from_ne_true, cond-true, cases_Bool}
+use Rattle.std.proofs.lemmas.Bool.{eqb-true, lt-ltb, eq-eqb, ne_eqb, false_from_ne_true, cond-true}
 use Rattle.queue_calls.specs.Queue.{Capacity}
 use Rattle.queue_calls.specs.Calls.{Event}
 use Rattle.queue_calls.specs.Counting.{Kept}
 use Rattle.queue_calls.specs.State.{MayHold, offered_by, asked_by, has_closed}
-use Rattle.queue_calls.specs.Reasons.{at, before_put, before_stored, before_take, can_hold, closed_cause, coming, empty_cause, ended_line, fewer_cause, full_cause, has_begun, has_ended, has_told, items_cause, k_of, last_taken, line_behind, n_of, not_taken_cause, offers, put_short_cause, stored_cause, take_short_cause, taken_at, wanted}
+use Rattle.queue_calls.specs.Reasons.{at, before_put, before_stored, before_take, closed_cause, coming, empty_cause, ended_line, fewer_cause, full_cause, has_begun, has_ended, has_told, items_cause, k_of, last_taken, line_behind, n_of, not_taken_cause, offers, put_short_cause, stored_cause, take_short_cause, taken_at, wanted}
 use Rattle.queue_calls.specs.Witnesses.{agreed}
 use Rattle.call_causes.specs.declared.causes.Cause.{Cause}
 use Rattle.call_causes.specs.declared.causes.Cause.TheVariants.{StoredAfterClose, OnlySomeStored, StoredTooMany, OnlySomeWithRoom, FullWithRoom, FullAfterClose, NotStoredButTaken, ShortWithRoom, NoMoreWhileInside, NotTaken, EmptyWhileInside, EmptyAfterClose, ShortWhileInside, ShortAfterClose, ClosedBeforeClose, ClosedWhileInside}

@@ -1,11 +1,11 @@
 -- What a full list implies about the history.
-use Rattle.std.proofs.Common.{◌≡◌, ℕ, ◌+◌, ◌<◌, false, List, [], ◌∷◌, ◌++◌, length, refl, ap, ◌∙◌, arith, length-append}
+use Rattle.std.proofs.Common.{ℕ, ◌+◌, ◌<◌, false, List, [], ◌∷◌, ◌++◌, length, arith, length-append}
 use Rattle.queue_calls.specs.Queue.{Capacity}
-use Rattle.queue_calls.specs.Calls.{Event, PutBegin, Producer, Idle, Putting, FoundShut, Closing}
-use Rattle.queue_calls.specs.declared.turns.PutTurn.TheVariants.{Free, Offers}
+use Rattle.queue_calls.specs.Calls.{Event, PutBegin}
+use Rattle.queue_calls.specs.declared.turns.PutTurn.TheVariants.{Free}
 use Rattle.queue_calls.specs.declared.turns.TakeTurn.{TakeTurn}
-use Rattle.queue_calls.specs.State.{taken_by, left_by, Keeps}
-use Rattle.queue_calls.specs.Audits.{HasMoreItems, items_at, left_at}
+use Rattle.queue_calls.specs.State.{Keeps}
+use Rattle.queue_calls.specs.Audits.{HasMoreItems}
 use Rattle.queue_calls.proofs.Ends.PutBegins.{put_begin}
 
 -- a put begins whose items do not fit after those inside

@@ -1,5 +1,5 @@
 -- What was heard of a history: a fault stays the first; an event that is refused is the first fault; and one that is not is counted.
-use Rattle.std.proofs.Common.{◌≡◌, ℕ, ◌+◌, true, false, Option, Some, None, List, [], ◌∷◌, ◌++◌, length, reverse, refl, ap, sym, subst, ◌∙◌, append_assoc, arith}
+use Rattle.std.proofs.Common.{◌≡◌, ℕ, ◌+◌, true, false, Option, List, [], ◌∷◌, ◌++◌, length, reverse, refl, ap, sym, subst, ◌∙◌, append_assoc, arith}
 use Rattle.std.specs.Prelude.{is_some, max}
 use Rattle.std.proofs.lemmas.Bool.{false≢true}
 use Rattle.queue_calls.specs.Queue.{Capacity}
@@ -21,7 +21,7 @@ use Rattle.queue_calls.specs.declared.turns.PutTurn.TheVariants.{Free}
 use Rattle.queue_calls.specs.declared.turns.TakeTurn.TheVariants.{Rests}
 use Rattle.queue_calls.specs.declared.witnesses.Witness.{Witness}
 use Rattle.queue_calls.specs.declared.recordings.CallsFinding.{CallsFinding}
-use Rattle.queue_calls.specs.declared.recordings.CallsFinding.TheVariants.{Lawful, OutOfTurn, NotLinearizable}
+use Rattle.queue_calls.specs.declared.recordings.CallsFinding.TheVariants.{Lawful}
 use Rattle.queue_calls.proofs.Agreeing.{turned}
 use Rattle.queue_calls.proofs.InsideMoments.{perhaps_follows, surely_follows}
 use Rattle.queue_calls.proofs.Remembering.{kept_of, linear, stands}

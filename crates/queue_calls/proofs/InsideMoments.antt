@@ -3,8 +3,8 @@ use Rattle.std.proofs.Common.{◌≡◌, ◌⊎◌, inl, inr, ℕ, ◌+◌, ◌-
 use Rattle.std.specs.Prelude.{max}
 use Rattle.std.proofs.lemmas.List.{append-nil, take-append-drop, length-take, length-take-le}
 use Rattle.queue_calls.specs.Queue.{Capacity, Unbounded, Between, Queue, queue}
-use Rattle.queue_calls.specs.Calls.{Event, PutBegin, PutEnd, CloseBegin, CloseEnd, TakeBegin, TakeEnd, passed, Producer, Idle, Putting, FoundShut, Closing, Consumer, Resting, Taking, Point, point}
-use Rattle.queue_calls.specs.Counting.{Kept, kept, without, Counts}
+use Rattle.queue_calls.specs.Calls.{Event, PutBegin, Producer, Idle, Putting, FoundShut, Closing, Consumer, Resting, Taking, Point, point}
+use Rattle.queue_calls.specs.Counting.{Kept, kept, Counts}
 use Rattle.queue_calls.specs.Reporting.{AtSome, AtEach, Surely, Perhaps, IsSurelyInside, IsPerhapsInside}
 use Rattle.queue_calls.specs.State.{IsProper, MayHold, taken_by, left_by, FitsPut, FitsTake, Describes, offered_by, asked_by, TellsPoint}
 use Rattle.queue_calls.specs.Tallying.{least_kept, most_kept, most_behind}

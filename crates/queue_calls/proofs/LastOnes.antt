@@ -1,5 +1,5 @@
 -- The loops of a witness over the items inside and those taken last.
-use Rattle.std.proofs.Common.{◌≡◌, ◌⊎◌, inl, inr, ℕ, suc, ◌+◌, ◌-◌, ◌<◌, ◌≤◌, Bool, true, false, List, [], ◌∷◌, ◌++◌, Some, None, length, get_or, set, take, drop, map, reverse, refl, sym, ap, ap₂, subst, ◌∙◌, arith, eq-eqb, append-nil, append_assoc, length-append, length-drop, length-take-le}
+use Rattle.std.proofs.Common.{◌≡◌, ◌⊎◌, ℕ, ◌+◌, ◌-◌, ◌<◌, ◌≤◌, Bool, true, false, List, [], ◌∷◌, ◌++◌, Some, None, length, get_or, set, take, drop, map, reverse, refl, sym, ap, ap₂, ◌∙◌, arith, eq-eqb, append-nil, append_assoc, length-append, length-drop, length-take-le}
 use Rattle.std.specs.Prelude.{◌==◌, find, nat_lt}
 use Rattle.std.proofs.lemmas.Bool.Decides.{nat_tests}
 use Rattle.std.proofs.lemmas.List.{drop-append-le, drop-drop, drop_all, drop_more, get_or-append_right, get_or-map, get_or_at, get_or_read, length-map, map_more, map_push, nil_from_length, reverse-append, set_at, take_more}

@@ -7,7 +7,7 @@ use Rattle.queue_calls.specs.Calls.{Event}
 use Rattle.queue_calls.specs.Queue.{Capacity}
 use Rattle.queue_calls.specs.Noting.{OutgrowsLists}
 use Rattle.call_lines.specs.Lines.{line_text, Allows, AreSmall}
-use Rattle.queue_calls.specs.Recordings.{Line, line, lines_text, AreLines, and_then, begun_after, begun_behind, capacity_told, event_told, events_told, IsRecording, IsFoundWithin, IsFindingWithin}
+use Rattle.queue_calls.specs.Recordings.{Line, line, lines_text, AreLines, begun_after, begun_behind, capacity_told, event_told, events_told, IsRecording, IsFoundWithin, IsFindingWithin}
 use Rattle.queue_calls.specs.RecordingStates.{IsFaultSoFar}
 use Rattle.queue_calls.specs.Rooms.{HasLongHistory}
 use Rattle.queue_calls.specs.Hearings.{HasHeardAll, HearsNext, FollowsLines, IsNotLawful}
@@ -17,7 +17,6 @@ use Rattle.queue_calls.specs.declared.hearings.Begun.TheVariants as begun
 use Rattle.queue_calls.specs.declared.hearings.Hearing.{Hearing}
 use Rattle.call_lines.specs.declared.lines.Word.{Word}
 use Rattle.queue_calls.specs.declared.recordings.CallsFinding.{CallsFinding}
-use Rattle.queue_calls.specs.declared.recordings.CallsFinding.TheVariants.{Lawful, OutOfTurn, NotLinearizable}
 use Rattle.queue_calls.specs.declared.reports.Tally.{Tally}
 use Rattle.queue_calls.specs.declared.witnesses.Witness.{Witness}
 use Rattle.queue_calls.proofs.HeardLines.{count_is, events_more, further_heard, further_line, is_line, not_further}

@@ -1,5 +1,5 @@
 -- A history whose operations take effect at moments has an order of them.
-use Rattle.std.proofs.Common.{◌≡◌, inl, inr, ℕ, suc, ◌+◌, ◌≤◌, false, List, [], ◌∷◌, ◌++◌, length, refl, sym, ap, subst, ◌∙◌, arith, append_assoc}
+use Rattle.std.proofs.Common.{◌≡◌, ℕ, suc, ◌+◌, ◌≤◌, false, List, [], ◌∷◌, ◌++◌, length, refl, sym, ap, subst, ◌∙◌, arith, append_assoc}
 use Rattle.std.proofs.lemmas.List.{append-nil}
 use Rattle.queue_calls.specs.Queue.{Capacity, Operation, Queue, queue, Step, IsLegal}
 use Rattle.queue_calls.specs.Calls.{Event, Mark, Happens, Effect, Idle, Resting, Point, point, Leads, LeadTo, events_among, IsLinearizable}

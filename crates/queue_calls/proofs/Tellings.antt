@@ -1,14 +1,13 @@
 -- The lines of a well-formed history are a recording of it.
-use Rattle.std.proofs.Common.{◌≡◌, ℕ, ◌^◌, ◌<◌, ◌≤◌, Bool, true, false, nat_lt, if◌then◌else◌, Some, List, [], ◌∷◌, length, refl, ap, sym, subst, ◌∙◌, arith}
+use Rattle.std.proofs.Common.{◌≡◌, ℕ, ◌^◌, ◌<◌, Bool, nat_lt, Some, List, [], ◌∷◌, length, refl, ap, sym, ◌∙◌, arith}
 use Rattle.std.specs.Prelude.{All}
 use Rattle.std.proofs.lemmas.Bool.{ltb-true, ltb-false}
 use Rattle.std.proofs.lemmas.List.Elements.{All-cons, All-nil}
-use Rattle.queue_calls.specs.Calls.{Event, PutBegin, PutEnd, CloseBegin, CloseEnd, TakeBegin, TakeEnd, Passed, Lacked, Short, Nothing, Shut}
+use Rattle.queue_calls.specs.Calls.{Event}
 use Rattle.queue_calls.specs.InTurn.{UnderWay, NoCall, APut, AClose, ATake, Sides, sides, MovesSides, Turns}
 use Rattle.call_lines.specs.Lines.{Allows, AreSmall}
-use Rattle.queue_calls.specs.Recordings.{first_word, Line, line, IsOfFormat, IsFurther, event_told, begun_after, and_then, events_told}
+use Rattle.queue_calls.specs.Recordings.{first_word, Line, IsOfFormat, IsFurther, event_told, begun_after, and_then, events_told}
 use Rattle.queue_calls.specs.Tellings.{line_of, lines_of, numbers_in, TellsSmall, HistoryHasARecording}
-use Rattle.call_lines.specs.declared.lines.Word.TheVariants as word
 use Rattle.queue_calls.specs.declared.hearings.Begun.{Begun}
 use Rattle.queue_calls.specs.declared.hearings.Begun.TheVariants as begun
 use Rattle.queue_calls.proofs.HeardLines.{not_first}

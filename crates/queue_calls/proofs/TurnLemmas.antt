@@ -1,7 +1,7 @@
 -- Well-formed histories: one more event, and the calls that are under way after a history.
-use Rattle.std.proofs.Common.{◌≡◌, inl, inr, ℕ, suc, ◌+◌, Bool, true, false, List, [], ◌∷◌, ◌++◌, length, refl, sym, ap, subst, ◌∙◌, arith, length-append}
-use Rattle.queue_calls.specs.Queue.{Capacity, Operation, Enqueue, FindNoRoom, FindShut, Close, Dequeue, FindFewer, FindClosed}
-use Rattle.queue_calls.specs.Calls.{Event, PutBegin, PutEnd, CloseBegin, CloseEnd, TakeBegin, TakeEnd, Mark, Happens, Effect, Producer, Idle, Putting, FoundShut, Closing, Consumer, Resting, Taking, FoundClosed, passed, lacked_by, CanReply, ProducerStep, ConsumerStep, Point, LeadTo, events_among, IsLinearizable}
+use Rattle.std.proofs.Common.{◌≡◌, ◌+◌, Bool, true, false, List, [], ◌∷◌, ◌++◌, length, refl, sym, subst, ◌∙◌, arith, length-append}
+use Rattle.queue_calls.specs.Queue.{Capacity, Operation}
+use Rattle.queue_calls.specs.Calls.{Event, PutBegin, PutEnd, CloseBegin, CloseEnd, TakeBegin, TakeEnd, Mark, Happens, Effect, Producer, Idle, Putting, FoundShut, Closing, Consumer, Resting, Taking, FoundClosed, ProducerStep, ConsumerStep, Point, LeadTo, events_among, IsLinearizable}
 use Rattle.queue_calls.specs.InTurn.{UnderWay, NoCall, APut, AClose, ATake, Sides, sides, MovesSides, Turns, CallsAreInTurn}
 use Rattle.queue_calls.proofs.Replies.{shut_within}
 

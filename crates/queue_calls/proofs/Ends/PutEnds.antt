@@ -1,12 +1,11 @@
 -- The puts: how they end.
-use Rattle.std.proofs.Common.{◌≡◌, ◌⊎◌, inl, inr, ℕ, ◌+◌, ◌-◌, ◌≤◌, Bool, true, false, List, [], ◌++◌, length, take, drop, refl, sym, ap, subst, ◌∙◌, arith, length-append, length-drop, append_assoc}
+use Rattle.std.proofs.Common.{◌≡◌, ◌⊎◌, inl, inr, ℕ, ◌+◌, ◌-◌, ◌≤◌, Bool, true, false, List, [], ◌++◌, length, take, drop, refl, sym, subst, ◌∙◌, arith, length-append, length-drop, append_assoc}
 use Rattle.std.proofs.lemmas.List.{append-nil, take-append-drop, length-take-le}
 use Rattle.std.proofs.Math.Seq.{take-append_seam}
 use Rattle.queue_calls.specs.Queue.{Capacity, Queue}
-use Rattle.queue_calls.specs.Calls.{Event, PutEnd, Reply, Nothing, Shut, passed, is_shut, CanReply, lacked_by, Happens, Producer, Idle, Putting, FoundShut, Closing, Consumer, Resting, Taking, FoundClosed, ProducerStep, point}
+use Rattle.queue_calls.specs.Calls.{Event, PutEnd, Reply, Nothing, Shut, passed, is_shut, CanReply, lacked_by, Happens, Producer, Idle, Putting, Consumer, ProducerStep, point}
 use Rattle.queue_calls.specs.declared.turns.PutTurn.TheVariants.{Free, Offers, Late}
 use Rattle.queue_calls.specs.declared.turns.TakeTurn.{TakeTurn}
-use Rattle.queue_calls.specs.declared.turns.TakeTurn.TheVariants.{Rests, Waits}
 use Rattle.queue_calls.specs.State.{taken_by, FitsPut, FitsTake, asked_by, IsSoundTake, MayLack, CanEndPut, TellsPoint, Keeps}
 use Rattle.queue_calls.proofs.Replies.{few}
 use Rattle.queue_calls.proofs.Rooms.{holds_fewer}
@@ -85,10 +84,7 @@ module _ (capacity : Capacity) (h : List Event) (inside : List ℕ) (take' : Tak
     was_late reply closed (inr is) e = grind arith
 
     late_is : (p : Producer) (closed : Bool) → FitsPut capacity (Late offered) shut p closed → closed ≡ true
-    late_is Idle closed f = absurd f
-    late_is (Putting lacked done left) closed f = f.2
-    late_is FoundShut closed f = f
-    late_is (Closing done) closed f = absurd f
+    late_is p closed f = grind arith
 
     pub late_ends : (reply : Reply ℕ) → (reply ≡ Nothing) ⊎ (reply ≡ Shut) → Accepts capacity h (PutEnd reply) inside Free take' shut
     late_ends reply none =

@@ -146,16 +146,11 @@ module _ (capacity : Capacity) (h : List Event) (inside : List ℕ) (shut : Bool
     points :
         (xs : List ℕ) (closed : Bool) (p : Producer) (c : Consumer) → Describes capacity inside put (Waits wanted (Before put) shut) shut (point (queue xs closed) p c) → TellsPoint k.late put p →
         After (point (queue xs closed) p c)
-    points xs closed p Resting d told = absurd d.consumer
-    points xs closed p (Taking found taken left) d told = took_at put k xs closed p found taken left d.items d.room d.producer told d.consumer.0 d.consumer.1
-    points xs closed p FoundClosed d told = told_closed put k (queue xs closed) p d.items d.room d.producer told d.consumer
+    points xs closed p c d told = grind (arith, took_at, told_closed)
 
     -- all that is inside was there before, if a close had ended
     all_before : (turn : PutTurn) → IsSoundPut (length inside) turn shut → shut ≡ true → length inside ≤ length inside - offered_by turn
-    all_before Free ok s = omega arith
-    all_before (Offers offered before) ok s = let o : shut ≡ false = ok.0 in absurd (cc)
-    all_before (Late offered) ok s = omega arith
-    all_before (Closes again) ok s = omega arith
+    all_before turn ok s = grind arith
 
     pub take_begin : Accepts capacity h (TakeBegin wanted) inside put (Waits wanted (Before put) shut) shut
     take_begin =

@@ -4,9 +4,8 @@ use Rattle.std.proofs.lemmas.Bool.{cases_lt}
 use Rattle.std.proofs.lemmas.List.{length-take-le, take_more}
 use Rattle.std.proofs.Math.Seq.{drop-append_seam, get_or-append_seam}
 use Rattle.queue_calls.specs.Queue.{Capacity}
-use Rattle.queue_calls.specs.Calls.{Event, TakeEnd, Reply, passed, is_shut, CanReply, lacked_by, Producer, Idle, Putting, FoundShut, Closing, Consumer, Resting, Taking, FoundClosed, point}
+use Rattle.queue_calls.specs.Calls.{Event, TakeEnd, Reply, passed, is_shut, CanReply, lacked_by, Producer, Consumer, Resting, Taking, FoundClosed, point}
 use Rattle.queue_calls.specs.declared.turns.PutTurn.{PutTurn}
-use Rattle.queue_calls.specs.declared.turns.PutTurn.TheVariants.{Free, Offers, Late, Closes}
 use Rattle.queue_calls.specs.declared.turns.TakeTurn.TheVariants.{Rests, Waits}
 use Rattle.queue_calls.specs.State.{MayHold, left_by, has_closed, FitsPut, offered_by, IsSoundPut, MayFindFewer, AreNext, CanEndTake, Keeps}
 use Rattle.queue_calls.specs.Counting.{FoundFewer}

@@ -1,4 +1,4 @@
-use Rattle.std.proofs.Common.{◌≡◌, ◌≢◌, true, false, ap, ◌∙◌, ℕ, ◌+◌, List, [], ◌∷◌, ◌++◌, length, Option, Some, IfSome, inl, length-append, ap₂, sym, subst, arith}
+use Rattle.std.proofs.Common.{◌≡◌, ◌≢◌, ap, ◌∙◌, ℕ, ◌+◌, List, [], ◌∷◌, ◌++◌, length, Option, Some, IfSome, inl, length-append, ap₂, sym, subst, arith}
 use Rattle.std.proofs.lemmas.List.{nil_from_length}
 use Rattle.call_lines.specs.Lines.{IsLine}
 use Rattle.queue_calls.specs.Noting.{OutgrowsLists}
@@ -11,7 +11,7 @@ use Rattle.call_causes.specs.declared.entries.Taken.{Taken}
 use Rattle.call_lines.specs.declared.lines.Word.{Word}
 use Rattle.queue_calls.specs.declared.hearings.Begun.TheVariants as begun
 use Rattle.queue_calls.specs.declared.recordings.Lines.{Lines}
-use Rattle.queue_calls.proofs.HeardLines.{IsFirst, first_line, is_line, first_heard, further_line, count_is, further_heard, not_the_first, not_further}
+use Rattle.queue_calls.proofs.HeardLines.{first_line, is_line, first_heard, further_line, count_is, further_heard, not_the_first, not_further}
 use Rattle.lists.proofs.Results.{then_err, then_ok}
 use Rattle.queue_calls.proofs.NotingLemmas.{line_long}
 use Rattle.queue_calls.proofs.recordings.Lines.read.Goals as goal

@@ -1,4 +1,4 @@
-use Rattle.std.proofs.Common.{◌<◌, ◌≤◌, length, arith}
+use Rattle.std.proofs.Common.{◌<◌, length, arith}
 use Rattle.queue_calls.proofs.LastOnes.{comes_here, comes_on, comes_not}
 use Rattle.queue_calls.proofs.witnesses.Witness.comes_from.Goals as goal
 

@@ -1,4 +1,4 @@
-use Rattle.std.proofs.Common.{◌≤◌, length, arith}
+use Rattle.std.proofs.Common.{length, arith}
 use Rattle.std.proofs.lemmas.Bool.Decides.{nat_tests}
 use Rattle.queue_calls.proofs.LastOnes.{last_is, last_before, last_none}
 use Rattle.queue_calls.proofs.witnesses.Witness.last_taken_of.Goals as goal

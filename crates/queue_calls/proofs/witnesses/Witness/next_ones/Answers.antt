@@ -1,4 +1,4 @@
-use Rattle.std.proofs.Common.{◌≤◌, length, arith}
+use Rattle.std.proofs.Common.{length, arith}
 use Rattle.std.proofs.lemmas.Bool.Decides.{nat_tests}
 use Rattle.queue_calls.proofs.LastOnes.{agreed_on, agreed_here, agreed_past, agreed_all, entry_at}
 use Rattle.queue_calls.proofs.witnesses.Witness.next_ones.Goals as goal

@@ -1,7 +1,6 @@
-use Rattle.std.proofs.Common.{rules, ◌≡◌, ◌≤◌, inl, inr, true, [], ◌∷◌, ◌++◌, Result, Ok, Err, length, get_or, map, refl, sym, ap, ◌∙◌, arith, append-nil}
-use Rattle.std.specs.Prelude.{OnErr, if◌then◌else◌, is_err}
-use Rattle.queue_calls.specs.Reasons.{last_of, taken_at}
-use Rattle.queue_calls.proofs.LastOnes.{MakesRoom, last_in_line, last_in_none, last_none_kept, took_few, took_more}
+use Rattle.std.proofs.Common.{◌≡◌, true, Result, Ok, Err, length, get_or, map, arith, append-nil}
+use Rattle.std.specs.Prelude.{OnErr, is_err}
+use Rattle.queue_calls.proofs.LastOnes.{last_in_line, last_in_none, last_none_kept, took_few, took_more}
 use Rattle.queue_calls.proofs.witnesses.Witness.takes.Goals as goal
 use Rattle.queue_calls.proofs.witnesses.Witness.takes.Goals.{then-self-len, else-self-len, in-Some, in-None}
 
