@@ -26,13 +26,9 @@ beginning_in s b [] is that = subst (λ (z : List RegisterEvent). IsBeginning s 
 beginning_in s b (e ∷ c) is (inl that) = subst (λ (z : List RegisterEvent). IsBeginning s z) that is
 beginning_in s b (e ∷ c) is (inr that) = inr (beginning_in s b c is that)
 
--- the events before a reader's last read are a prefix
-beginning_one : (t : Bool) (h s : List RegisterEvent) → IsBeginning s h → IsBeginning (if t then h else s) h
-beginning_one t h s h1 = grind (arith, beginning_all)
-
 pub before_read-beginning : (i : ℕ) (h : List RegisterEvent) → IsBeginning (before_read i h) h
 before_read-beginning i [] = refl
-before_read-beginning i (e ∷ b) = grind (arith, beginning_one, (before_read-beginning i b))
+before_read-beginning i (e ∷ b) = grind (arith, beginning_all, (before_read-beginning i b))
 
 -- what a history has of such a prefix
 module _ (s : List RegisterEvent) where
@@ -126,10 +122,6 @@ reading_began i (ReadEnds j v ∷ b) is = elim (eqb_tells i j) [
 pub read_there : (i v : ℕ) (b : List RegisterEvent) (start : ℕ) → Began i b start → IsReadFrom (ReadEnds i v ∷ b) i start (length b) v
 read_there i v b start began = grind arith
 
--- and from no other place
-pub one_start : (i v : ℕ) (e : RegisterEvent) (b : List RegisterEvent) (start other : ℕ) → Began i b start → IsReadFrom (e ∷ b) i other (length b) v → other ≡ start
-one_start i v e b start other began is = grind (arith, cases_lt, placed_event-before)
-
 -- a read of a history is one of the history with one more event, and vice versa
 pub read_still : (i start stop v : ℕ) (e : RegisterEvent) (b : List RegisterEvent) → IsReadFrom b i start stop v → IsReadFrom (e ∷ b) i start stop v
 read_still i start stop v e b is = grind (arith, placed_event-before, placed_event-within)
@@ -145,7 +137,7 @@ pub record IsLastRead (b : List RegisterEvent) (j u i start stop v : ℕ) : Type
   pub value : v ≡ u
 
 pub last_read : (b : List RegisterEvent) (j u i start stop v : ℕ) → has_read_open j b ≡ true → stop ≡ length b → ReadEnds j u ≡ ReadEnds i v → IsReadFrom (ReadEnds j u ∷ b) i start stop v → IsLastRead b j u i start stop v
-last_read b j u i start stop v under_way place event is = grind (arith, (reading_began j b under_way), one_start)
+last_read b j u i start stop v under_way place event is = grind (arith, (reading_began j b under_way), cases_lt, placed_event-before)
 
 -- so what holds for that one holds for it
 pub of_last : (b : List RegisterEvent) (j u i start stop v : ℕ) (P : ℕ → ℕ → ℕ → Type 0) → IsLastRead b j u i start stop v → P (length (before_read j b)) (length b) u → P start stop v

@@ -110,9 +110,6 @@ module _ (e : RegisterEvent) (b : List RegisterEvent) where
   pub ends_more : (w place : ℕ) → place ≤ length b → WriteHasEnded b w place → WriteHasEnded (e ∷ b) w place
   ends_more w place le (q, after, before, is) = (q, after, before, placed_event-before e b q (omega (arith, before, le)) ∙ is)
 
-  ends_less : (w place : ℕ) → place ≤ length b → WriteHasEnded (e ∷ b) w place → WriteHasEnded b w place
-  ends_less w place le (q, after, before, is) = (q, after, before, sym (placed_event-before e b q (omega (arith, before, le))) ∙ is)
-
   pub may_more : (first start stop v k : ℕ) → start ≤ length b → stop ≤ length b → MayBeOf first b start stop v k → MayBeOf first (e ∷ b) start stop v k
   may_more first start stop v k h1 h2 h3 = grind arith
 
@@ -126,7 +123,7 @@ module _ (e : RegisterEvent) (b : List RegisterEvent) where
   )
 
   pub quiet_less : (start stop : ℕ) → start ≤ length b → IsQuiet (e ∷ b) start stop → IsQuiet b start stop
-  quiet_less start stop le none w u write over = grind (arith, (placed_event-before e b w (placed_event-within b w (WriteBegins u) write)), (placed_event-within b w (WriteBegins u) write), ends_less, over.0, over.1)
+  quiet_less start stop le none w u write over = grind (arith, (placed_event-before e b w (placed_event-within b w (WriteBegins u) write)), (placed_event-within b w (WriteBegins u) write), placed_event-before, over.0, over.1)
 
   pub quiet_more : (start stop : ℕ) → start ≤ length b → stop ≤ length b → IsQuiet b start stop → IsQuiet (e ∷ b) start stop
   quiet_more start stop le within none w u write over = grind arith

@@ -19,10 +19,6 @@ use Rattle.register_calls.proofs.Readers.{moves_set, open_within}
 use Rattle.register_calls.proofs.Hearing.{read_ends_as}
 use Rattle.register_calls.proofs.ReadLemmas.{few_started}
 
--- it held, and still holds
-kept_iff : (b c : Bool) (P Q : Type 0) → IsTrue b ↔ P → IsTrue c ↔ Q → IsTrue (if b then c else true) ↔ (P → Q)
-kept_iff b c P Q h1 h2 = grind arith
-
 -- the flag that is kept for a class
 abbrev pub flag_of : Class → (safe regular each all : Bool) → Bool
 flag_of Safe safe regular each all = safe
@@ -64,7 +60,7 @@ module _ (r : Register) (h : List RegisterEvent) (kept : List ℕ) (base begun :
     keeps_this : (c : Class) →
         IsTrue (if flag_of c safe regular each all then flag_of c now (still regular found.of_any) (still each found.of_own) (still all found.of_all) else true) ↔
         (HasClass c r h → HasClass c r (ReadEnds i v ∷ h))
-    keeps_this c = grind (arith, class_told, has_with_read, kept_iff)
+    keeps_this c = grind (arith, class_told, has_with_read)
 
     -- it keeps each class, if it keeps the four
     pub keeps_with_read :

@@ -34,24 +34,17 @@ found_is_of first l h i v n began least = grind (arith, length-written, slice_ge
 module _ (s : Scope) (first i v l m : ℕ) (h : List RegisterEvent) (floor : ℕ → ℕ) (low : ℕ → Option ℕ) (mine : low i ≡ Some l) (began : finished (before_read i h) ≤ l) where
   -- the read is of this write, in an order that continues
   order_more : (n : ℕ) → IsLeast (written_values first h) l v n → KeepsOrder s first h floor low → HasOrder s first (ReadEnds i v ∷ h)
-  order_more n least k = (
-    changed k.of (length h) n,
-    Orders-more s first k.of h i v n k.orders (found_is_of first l h i v n began least) (NoneIsLater-more s k.of i l n (before_read i h) least.0 (k.reached_before i l mine)),
-  )
+  order_more n least k =
+      grind (arith, changed k.of (length h) n, length h, Orders-more s first k.of h i v n k.orders (found_is_of first l h i v n began least) (NoneIsLater-more s k.of i l n (before_read i h) least.0 (k.reached_before i l mine)), found_is_of first l h i v n began least, NoneIsLater-more s k.of i l n (before_read i h) least.0 (k.reached_before i l mine))
 
   -- no order continues: the read is of no write from its low on, but of one before
   inverted_by :
       (held : Bool) (found : Option ℕ) (chain : Chain) → IsFirstPlace (written_values first h) l v found → IsLeast (written_values first h) (finished (before_read i h)) v m →
       KeepsScope held s first h floor low → HasOrder s first h → (HasOrder s first (ReadEnds i v ∷ h) → ⊥) → ShownLow s first i l (before_read i h) chain →
       (reads : List EarlierRead) × ShowsReads chain reads × IsInverted s first reads h i v
-  inverted_by false found chain at any keeps has lacks shown = absurd (keeps has)
-  inverted_by true (Some n) chain at any keeps has lacks shown = absurd (lacks (order_more n at keeps))
-  inverted_by true None chain at any keeps has lacks (inl ends) = absurd (at m (let p = any.0 in omega (arith, p, ends)) any.1)
-  inverted_by true None chain at any keeps has lacks (inr (reads, shows, bound)) = (reads, shows, (l, bound, at))
+  inverted_by held found chain at any keeps has lacks shown = grind (arith, order_more)
 
 module _ (r : Register) (h : List RegisterEvent) (i v base : ℕ) (found : FoundWrites) (firsts : FirstWrites r.first h i v base found) where
-  none_since : found.of_any ≡ None → HasNone (written_values r.first h) (finished (before_read i h)) v
-  none_since none = grind arith
 
   -- none of the writes that the read may be of wrote the value
   pub not_written_there :
@@ -104,4 +97,4 @@ pub held_there :
     (c : Class) (r : Register) (h : List RegisterEvent) (i v base begun value : ℕ) (found : FoundWrites) (kept : List ℕ) (since : Option ℕ) → FirstWrites r.first h i v base found → found.of_any ≡ None →
     found.read.before ≡ begun → begun ≡ started h → IsWellFormed r h → kept ≡ drop base (written_values r.first h) → value ≡ slice_index_or kept (begun - base) 0 → since ≡ last_end h →
     IsMissReason c r h i v (Held value since)
-held_there c r h i v base begun value found kept since firsts none last count formed values is ended = grind (arith, finished-before_read, finished-started, get_or-drop, held_from, length-written, none_since, slice_get-get_or)
+held_there c r h i v base begun value found kept since firsts none last count formed values is ended = grind (arith, finished-before_read, finished-started, get_or-drop, held_from, length-written, slice_get-get_or)

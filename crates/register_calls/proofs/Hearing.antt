@@ -103,9 +103,6 @@ module _ (r : Register) (h : List RegisterEvent) (kept : List ℕ) (base begun :
 held_told : (held : Bool) (P : Type 0) → held ≡ true → IsToldBy held P → P
 held_told held P h1 h2 = grind arith
 
-told_held : (held : Bool) (P : Type 0) → IsToldBy held P → P → held ≡ true
-told_held held P h1 h2 = grind arith
-
 module _ (first : ℕ) (h : List RegisterEvent) (i v before begun : ℕ) where
   -- a read that no write overlaps, and that may be of a write, is of the last one
   last_one :
@@ -113,18 +110,12 @@ module _ (first : ℕ) (h : List RegisterEvent) (i v before begun : ℕ) where
       (before < begun) ⊎ (still true found ≡ true) → finished (before_read i h) ≡ started h → IsOf first (before_read i h) h v (started h)
   last_one found h1 h2 h3 h4 h5 h6 = grind (arith, length-written, slice_get_within)
 
-  -- and vice versa
-  overlapped_or_one :
-      (found : Option ℕ) → before ≡ finished (before_read i h) → begun ≡ started h → before ≤ begun → IsFirstPlace (written_values first h) before v found →
-      (finished (before_read i h) ≡ started h → IsOf first (before_read i h) h v (started h)) → (before < begun) ⊎ (still true found ≡ true)
-  overlapped_or_one found h1 h2 h3 h4 h5 = grind arith
-
 -- whether a history with a read is safe
 pub safe_got :
     (r : Register) (h : List RegisterEvent) (i v before begun : ℕ) (found : Option ℕ) (held now : Bool) → before ≡ finished (before_read i h) → begun ≡ started h → before ≤ begun →
     IsFirstPlace (written_values r.first h) before v found → (now ≡ true) ↔ ((held ≡ true) × IsValue r v × ((before < begun) ⊎ (still true found ≡ true))) →
     IsToldBy held (IsSafe r h) → IsToldBy now (IsSafe r (ReadEnds i v ∷ h))
-safe_got r h i v before begun found held now h1 h2 h3 h4 h5 h6 = grind (arith, held_told, last_one, overlapped_or_one, told_held)
+safe_got r h i v before begun found held now h1 h2 h3 h4 h5 h6 = grind (arith, held_told, last_one)
 
 -- whether it is regular
 pub regular_got :
@@ -283,20 +274,7 @@ module _ (r : Register) (h : List RegisterEvent) (kept : List ℕ) (base begun :
   pub first_writes :
       (i v : ℕ) (found : FoundWrites) → (reader_at readers i).reading ≡ Some found.read → FindsWrites kept base begun v found →
       KeepsHistory r h kept base begun writing readers floor safe regular each all → FirstWrites r.first h i v base found
-  first_writes i v found at finds k =
-      let mine : KeepsRead i h (Some found.read) = subst (λ (o : Option OpenRead). KeepsRead i h o) at (k.reads i) in
-      let low = k.needed i found.read at in
-      let long : length (written_values r.first h) ≡ suc begun = length-written r.first h ∙ ap suc (sym k.count) in
-      record {
-        is_open = mine.0;
-        began = mine.1;
-        kept = low;
-        low = mine.2;
-        own_low = mine.3;
-        any = finds.any (written_values r.first h) k.values low long;
-        own = finds.own (written_values r.first h) k.values (let p = mine.3 in omega (arith, p, low)) long;
-        all = finds.all (written_values r.first h) k.values (let p = mine.2 in omega (arith, p, low)) long;
-      }
+  first_writes i v found at finds k = grind (arith, length, length-written)
 
   -- a read ends, by what was found among the writes that are kept
   pub read_ends_as :

@@ -34,11 +34,8 @@ one_operation h a b h1 h2 h3 = grind arith
 pub operation_still : (e : RegisterEvent) (b : List RegisterEvent) (o : RegisterOperation) → IsOperationOf b o → IsOperationOf (e ∷ b) o
 operation_still e b o h1 = grind (arith, placed_event-before, placed_event-within, read_still)
 
-operation_before : (e : RegisterEvent) (b : List RegisterEvent) (o : RegisterOperation) → place_of o < length b → IsOperationOf (e ∷ b) o → IsOperationOf b o
-operation_before e b o h1 h2 = grind arith
-
 pub operation_cases : (e : RegisterEvent) (b : List RegisterEvent) (o : RegisterOperation) → IsOperationOf (e ∷ b) o → ((place_of o ≡ length b) × (e ≡ event_of o)) ⊎ IsOperationOf b o
-operation_cases e b o is = search (rules, at_place, operation_before, placed_event-cases)
+operation_cases e b o is = search (rules, at_place, placed_event-cases)
 
 -- each write has ended when the next one begins
 ended_on : (h : List RegisterEvent) (w place later : ℕ) → place ≤ later → WriteHasEnded h w place → WriteHasEnded h w later

@@ -14,13 +14,6 @@ use Rattle.register_calls.proofs.Places.{placed_event-before, placed_event-cases
 use Rattle.register_calls.proofs.Beginnings.{beginning_all, beginning_tail, beginning_in, before_read-beginning, started-beginning, length-beginning, placed_event-beginning, code-beginning, formed-beginning, reading_began, read_there, read_still, read_before, last_read, of_last}
 use Rattle.register_calls.proofs.ByIntervals.{of_places, of_coded, may_more, may_less}
 
--- the code of a number is the same with one more event
-code-more : (e : RegisterEvent) (b : List RegisterEvent) (n : ℕ) → n ≤ started b → code (e ∷ b) n ≡ code b n
-code-more e b n h1 = grind arith
-
-started-more : (e : RegisterEvent) (b : List RegisterEvent) → started b ≤ started (e ∷ b)
-started-more e b = grind arith
-
 module _ (scope : Scope) where
   -- no read that ended, and that the reader has to respect, is of a later write
   later_at : (of : Choice) (j n : ℕ) (s : List RegisterEvent) (p i v : ℕ) → NoneIsLater scope of j n s → sees scope j i ≡ true → placed_event s p ≡ Some (ReadEnds i v) → of p ≤ n
@@ -51,7 +44,7 @@ record Known (first : ℕ) (of : Choice) (h : List RegisterEvent) (start stop v 
   may : MayBeOf first h start stop v (code h (of stop))
 
 known_more : (first : ℕ) (of : Choice) (e : RegisterEvent) (b : List RegisterEvent) (start stop v : ℕ) → start ≤ length b → stop ≤ length b → Known first of b start stop v → Known first of (e ∷ b) start stop v
-known_more first of e b start stop v le few known = grind (arith, code, code-more, may_more, started-more)
+known_more first of e b start stop v le few known = grind (arith, code, may_more)
 
 module _ (scope : Scope) (r : Register) (of : Choice) where
   -- what is known about each read of a history
@@ -59,8 +52,7 @@ module _ (scope : Scope) (r : Register) (of : Choice) where
   IsKnown h = (i start stop v : ℕ) → IsReadFrom h i start stop v → Known r.first of h start stop v
 
   known_early : (e : RegisterEvent) (b : List RegisterEvent) (i start stop v : ℕ) → stop < length b → IsReadFrom (e ∷ b) i start stop v → IsKnown b → Known r.first of (e ∷ b) start stop v
-  known_early e b i start stop v early is all =
-      known_more r.first of e b start stop v (let l = is.later in omega (arith, l, early)) (omega (arith, early)) (all i start stop v (read_before i start stop v e b early is))
+  known_early e b i start stop v early is all = grind (arith, known_more, read_before i start stop v e b early is)
 
   known_other : (e : RegisterEvent) (b : List RegisterEvent) → ((i v : ℕ) → e ≢ ReadEnds i v) → IsKnown b → IsKnown (e ∷ b)
   known_other e b other all i start stop v is = search (rules, known_early, placed_event-cases)
