@@ -1,5 +1,5 @@
 -- What contradicts a read that ends now, by what a witness keeps.
-use Rattle.std.proofs.Common.{◌≡◌, inl, inr, ℕ, ◌-◌, ◌≤◌, Bool, true, false, Option, Some, None, List, [], ◌∷◌, length, drop, refl, ap, sym, subst, arith, get_or-drop}
+use Rattle.std.proofs.Common.{◌≡◌, inl, ℕ, ◌-◌, ◌≤◌, Bool, Option, Some, None, List, [], ◌∷◌, length, drop, refl, ap, sym, subst, arith, get_or-drop}
 use Rattle.std.specs.Prelude.{slice_index_or, option_map}
 use Rattle.std.proofs.lemmas.Option.{slice_get_within, slice_get-get_or}
 use Rattle.register_calls.specs.declared.events.Register.{Register}
@@ -15,7 +15,7 @@ use Rattle.register_calls.specs.declared.reasons.EarlierRead.{EarlierRead}
 use Rattle.register_calls.specs.declared.reasons.MissReason.TheVariants.{Held, NotWritten, Inverted}
 use Rattle.register_calls.specs.Histories.{IsValue, IsWellFormed, started, finished, written_values, before_read}
 use Rattle.register_calls.specs.Classes.{Scope, Together, EachAlone, IsOf, HasOrder, HasClass}
-use Rattle.register_calls.specs.Judging.{HasNone, IsLeast, IsFirstPlace}
+use Rattle.register_calls.specs.Judging.{IsLeast, IsFirstPlace}
 use Rattle.register_calls.specs.Audits.{KeepsOrder, KeepsScope, lows, own_floors, own_lows, reader_at}
 use Rattle.register_calls.specs.Chains.{ShowsReads, chain_at}
 use Rattle.register_calls.specs.Reasons.{IsHeldFrom, IsInverted, IsMissReason}
@@ -45,7 +45,6 @@ module _ (s : Scope) (first i v l m : ℕ) (h : List RegisterEvent) (floor : ℕ
   inverted_by held found chain at any keeps has lacks shown = grind (arith, order_more)
 
 module _ (r : Register) (h : List RegisterEvent) (i v base : ℕ) (found : FoundWrites) (firsts : FirstWrites r.first h i v base found) where
-
   -- none of the writes that the read may be of wrote the value
   pub not_written_there :
       (c : Class) (begun : ℕ) → found.of_any ≡ None → begun ≡ started h → (found.read.before ≡ begun → ⊥) → IsValue r v → HasClass c r h → (HasClass c r (ReadEnds i v ∷ h) → ⊥) →

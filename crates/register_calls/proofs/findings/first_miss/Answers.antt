@@ -1,9 +1,4 @@
-use Rattle.std.proofs.Common.{◌≡◌, List, ◌∷◌, reverse, get_or, take, true, false, sym, subst, ◌∙◌, arith}
-use Rattle.register_calls.specs.declared.events.Register.{Register}
-use Rattle.register_calls.specs.declared.events.RegisterEvent.{RegisterEvent}
-use Rattle.register_calls.specs.declared.events.RegisterEvent.TheVariants.{WriteBegins}
-use Rattle.register_calls.specs.Classes.{HasClass}
-use Rattle.register_calls.specs.Audits.{AuditsRegister}
+use Rattle.std.proofs.Common.{reverse, get_or, take, arith}
 use Rattle.register_calls.proofs.MissLemmas.{past_more, refused_tells, first_has}
 use Rattle.register_calls.proofs.findings.first_miss.Goals as goal
 
@@ -14,17 +9,7 @@ pub loop-place-preserved : goal.loop-place-preserved
 loop-place-preserved g c = grind (arith, past_more)
 
 pub returns-then-not-has-clause-miss : goal.returns-then-not-has-clause-miss
-returns-then-not-has-clause-miss g c =
-    let past = reverse (take c.loop-place.place c.args.events.now) in
-    let e = get_or c.args.events.now c.loop-place.place (WriteBegins 0) in
-    let new : AuditsRegister (λ q. q.items) (λ q. q.items) c.feed.new.self (e ∷ past) = (c.in-Ok.ensures.hears.1 past c.loop-place.invariant.audits).0 in
-    let same : c.feed.new.self.register ≡ c.args.register = c.in-Ok.ensures.hears.0 ∙ c.loop-place.invariant.register in
-    record {
-      within = omega arith;
-      before = c.loop-place.invariant.has;
-      with_it = subst (λ (h : List RegisterEvent). ¬ HasClass c.args.class c.args.register h) (sym (past_more c.args.events.now c.loop-place.place (WriteBegins 0) (omega arith)))
-          (λ has. (let yes : false ≡ true = sym c.if-not-has.true ∙ (c.has.ensures (e ∷ past) new).1 (subst (λ (r : Register). HasClass c.args.class r (e ∷ past)) (sym same) has) in absurd cc));
-    }
+returns-then-not-has-clause-miss g c = grind (arith, reverse, take, get_or, past_more)
 
 pub returns-in-Err-clause-ill_formed : goal.returns-in-Err-clause-ill_formed
 returns-in-Err-clause-ill_formed g c = grind (arith, refused_tells)
