@@ -141,15 +141,14 @@ module _ (past : List Event) (k : Kept) (a : Agrees past k) where
   takes : (reply : Reply (List ℕ)) → is_shut reply ≡ false → AreNext (passed [] reply) k.inside → Then (TakeEnd reply) (kept (drop (length (passed [] reply)) k.inside) k.put Rests k.shut)
   takes reply open' (rest, e) =
       let items : List ℕ = passed [] reply in
-      let left : drop (length items) k.inside ≡ rest = ap (λ z. drop (length items) z) e ∙ drop-append_seam items rest in
       record {
         gone = a.gone ++ items;
-        row = append_assoc a.gone items (drop (length items) k.inside) ∙ (ap (λ z. a.gone ++ (items ++ z)) left ∙ (ap (λ z. a.gone ++ z) (sym e) ∙ a.row));
-        count = omega (arith, length-append a.gone items, a.count, length-append (taken past) (map (taken_at (line_behind past)) items), length-map items (taken_at (line_behind past)));
+        row = grind (arith, drop-append_seam items rest, append_assoc a.gone items rest);
+        count = grind (arith, length-append a.gone items, length-append (taken past) (map (taken_at (line_behind past)) items), length-map items (taken_at (line_behind past)));
         put_fits = a.put_fits;
         take_fits = refl;
-        shut = a.shut ∙ ap (λ z. has_ended past || z) (sym (told_on reply past open'));
-        told = λ g. let (none, begun) = a.told (sym (told_on reply past open') ∙ g) in (left ∙ (append_right items rest (sym e ∙ none)), begun);
+        shut = grind (arith, told_on reply past);
+        told = λ g. let (none, begun) = a.told (sym (told_on reply past open') ∙ g) in (grind (arith, length, drop-append_seam items rest, append_right items rest), begun);
         ended = a.ended;
         steady = a.steady;
       }

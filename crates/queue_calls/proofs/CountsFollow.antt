@@ -115,32 +115,16 @@ module _ (capacity : Capacity) (k : Kept) (sound : IsSoundPut (length k.inside) 
   leads_counts (TakeEnd reply) m = elim m.consumer.0 [
     | inl (open', left, within, ec) ↦ (
         let took : List ℕ = passed [] reply in
-        let lacked : ℕ = lacked_by reply (length took) left in
-        let d' = as_take (Taking lacked took left) ec in
-        let (wanted, before, ended, is, sum, fewer) = taking_tells k.take s.queue lacked took left d'.consumer in
-        let (next, fits) = can_end_take capacity k.inside k.put k.take k.shut s.queue s.producer lacked took left d' in
-        let rest : left ≡ wanted - length took = omega (arith, sum) in (
-          kept (drop (length took) k.inside) k.put Rests k.shut,
-          (
-            wanted,
-            before,
-            ended,
-            is,
-            inl (
-              open',
-              subst (λ z. CanReply reply (length took) z) sum within,
-              subst (λ z. FoundFewer before ended (length took) (lacked_by reply (length took) z)) rest (finds_fewer before (length took) lacked ended fewer),
-              next,
-              (fits, refl),
-            ),
-          ),
-        ))
+        let d' = as_take (Taking (lacked_by reply (length took) left) took left) ec in
+        let (wanted, before, ended, is, sum, fewer) = taking_tells k.take s.queue (lacked_by reply (length took) left) took left d'.consumer in
+        let next = can_end_take capacity k.inside k.put k.take k.shut s.queue s.producer (lacked_by reply (length took) left) took left d' in
+        let rest : left ≡ wanted - length took = omega (arith, sum) in
+        (kept (drop (length took) k.inside) k.put Rests k.shut, (wanted, before, ended, is, inl (grind (arith, finds_fewer before (length took) (lacked_by reply (length took) left) ended fewer)))))
     | inr (shuts, ec) ↦ (
         let d' = as_take FoundClosed ec in
         let (wanted, before, ended, is, drained) = drained_tells k.take s.queue d'.consumer in
         let (left, begun) = closed_left capacity k.shut s.queue.closed k.put s.producer (length k.inside) sound d'.producer drained.1 in
-        let empty : k.inside ≡ [] = d'.items ∙ (ap (λ z. z ++ left_by k.put s.producer) drained.0 ∙ left) in
-        (kept [] k.put Rests true, (wanted, before, ended, is, inr (shuts, empty, begun, refl))))
+        (kept [] k.put Rests true, (wanted, before, ended, is, inr (shuts, grind (arith, d'.items, left, drained.0), begun, refl))))
   ]
 
 -- the last event of a linearizable history leads from a point that is described
