@@ -48,9 +48,6 @@ wants_so_many {n} {m} call is = let same : ATake m ≡ ATake n = ap call_of_take
 free_of : (put : PutTurn) → call_of_put put ≡ NoCall → put ≡ Free
 free_of put e = grind arith
 
-close_of : (put : PutTurn) → call_of_put put ≡ AClose → (again : Bool) × (put ≡ Closes again)
-close_of put e = grind arith
-
 rest_of : (turn : TakeTurn) → call_of_take turn ≡ NoCall → turn ≡ Rests
 rest_of turn e = grind arith
 
@@ -238,13 +235,6 @@ module _ (capacity : Capacity) (past : List Event) (k : Kept) (a : Agrees past k
     | inr late ↦ (kept k.inside Free k.take k.shut, inr (n, late, inr refl, refl))
   ]
 
-  items_counted : (limit : ℕ) (items : List ℕ) (why : Bool) (n : ℕ) → call_of_take k.take ≡ ATake n → 0 < length items → length items ≤ n → cause_of limit capacity (TakeEnd (Passed items why)) past ≡ None → Counted (TakeEnd (Passed items why))
-  items_counted limit items why n is some most e =
-      let (inside, closed, is_take) = take_of k.take n is in (
-        kept (drop (length items) k.inside) k.put Rests k.shut,
-        (n, inside, closed, is_take, inl (grind (arith, are_next capacity past k a limit items why, found_fewer inside closed items n why some, no_more capacity past k a n inside closed (length items) why is_take, left_fit capacity past k a (length items)))),
-      )
-
   empty_counted : (n : ℕ) → call_of_take k.take ≡ ATake n → empty_cause capacity past ≡ None → Counted (TakeEnd Lacked)
   empty_counted n is e =
       let (inside, closed, is_take) = take_of k.take n is in (
@@ -258,11 +248,6 @@ module _ (capacity : Capacity) (past : List Event) (k : Kept) (a : Agrees past k
         kept (drop 0 k.inside) k.put Rests k.shut,
         (n, inside, closed, is_take, inl (grind (arith, fewer_found capacity past k a n inside closed is_take, drained capacity past k a n inside closed is_take, left_fit capacity past k a 0))),
       )
-
-  take_nothing_counted : (n : ℕ) → call_of_take k.take ≡ ATake n → not_taken_cause capacity 0 past ≡ None → Counted (TakeEnd Nothing)
-  take_nothing_counted n is e =
-      let (inside, closed, is_take) = take_of k.take n is in
-      (kept (drop 0 k.inside) k.put Rests k.shut, (n, inside, closed, is_take, grind (arith, left_fit capacity past k a 0)))
 
   take_closed_counted : (limit n : ℕ) → call_of_take k.take ≡ ATake n → cause_of limit capacity (TakeEnd Shut) past ≡ None → Counted (TakeEnd Shut)
   take_closed_counted limit n is e =
@@ -282,7 +267,7 @@ module _ (capacity : Capacity) (past : List Event) (k : Kept) (a : Agrees past k
   counted limit (PutEnd Nothing) next (n, is, w, m) e = put_nothing_counted limit n is e
   counted limit (PutEnd Shut) next (n, is, w, m) e = put_closed_counted limit n is e
   counted limit CloseBegin next (free, m) e = grind (arith, free_of)
-  counted limit CloseEnd next (is, m) e = grind (arith, close_of)
+  counted limit CloseEnd next (is, m) e = grind (arith)
   counted limit (TakeBegin count) next (rests, some, m) e = grind (arith, length, rest_of, take)
   counted limit (TakeEnd (Passed items why)) next (n, is, (some, most), m) e =
       let (inside, closed, is_take) = take_of k.take n is in (

@@ -47,15 +47,6 @@ module _ {A : Type 0} where
   none_on true x y e = (refl, e)
   none_on false x y e = absurd cc
 
-  -- if it does not, one of the others does
-  pub some_else : (b : Bool) (x y : Option A) → (y ≡ None → ⊥) → (if b then x else y) ≡ None → (b ≡ true) × (x ≡ None)
-  some_else true x y f e = (refl, e)
-  some_else false x y f e = absurd (f e)
-
-  pub some_both : (b : Bool) (x y : A) → (if b then Some x else Some y) ≡ None → ⊥
-  some_both true x y e = absurd cc
-  some_both false x y e = absurd cc
-
   pub some_or : (x : Option A) → (x ≡ None → ⊥) → (value : A) × (x ≡ Some value)
   some_or None f = absurd (f refl)
   some_or (Some value) f = (value, refl)

@@ -31,9 +31,6 @@ module _ {A : Type 0} where
   pub told_off : (b : Bool) (x : A) (y : Option A) (z : A) → b ≡ false → (if b then Some x else y) ≡ Some z → y ≡ Some z
   told_off b x y z off e = grind arith
 
-  pub told_last : (b : Bool) (x z : A) → (if b then Some x else None) ≡ Some z → x ≡ z
-  told_last b x z e = grind arith
-
 -- a line that may be there
 pub is_line : (b : Bool) (line : ℕ) (told : Option ℕ) → told ≡ (if b then Some line else None) → b ≡ true → unwrap_or told 0 ≡ line
 is_line b line told e on = grind arith
@@ -125,9 +122,6 @@ module _ (capacity : Capacity) {past : List Event} {k : Kept} (a : Agrees past k
       late : closed ≡ true → has_ended (before_take past) ≡ true
       late e = grind (arith, ends)
 
-      early_take : closed ≡ false → has_ended (before_take past) ≡ false
-      early_take e = grind (arith, ends)
-
       pub take_ends : closed ≡ true → has_ended past ≡ true
       take_ends e = ended_grows past (late e)
 
@@ -135,7 +129,7 @@ module _ (capacity : Capacity) {past : List Event} {k : Kept} (a : Agrees past k
       empty_late none e f = told_on _ _ _ _ (late e) (told_off _ _ _ _ ((none_found capacity past k a n before closed is).1 none) (told_off _ _ _ _ open' f))
 
       pub empty_early : {z : Cause} → before ≡ 0 → closed ≡ false → empty_cause capacity past ≡ Some z → not_taken_cause capacity 0 past ≡ Some z
-      empty_early none e f = grind (arith, early_take, none_found capacity past k a n before closed is)
+      empty_early none e f = grind (arith, ends, none_found capacity past k a n before closed is)
 
       pub short_inside : {z : Cause} → 0 < n → n ≤ before → take_short_cause capacity past ≡ Some z → ShortWhileInside (at (coming past) (n - 1)) ≡ z
       short_inside some l e = grind (arith, lt-ltb, left, wants)

@@ -19,10 +19,6 @@ use Rattle.queue_calls.proofs.Ends.TakeBegins.{keeps_nothing}
 use Rattle.queue_calls.proofs.Ends.TakeEnds.{closed_left}
 use Rattle.queue_calls.proofs.CountedHistories.{Stands, counts_keeps, counted_is_linearizable}
 
--- what a take found, if it reports a reason
-finds_fewer : (before done lacked : ℕ) (ended : Bool) → MayFindFewer before ended lacked → FoundFewer before ended done lacked
-finds_fewer before done lacked ended f l = elim f [ inl e ↦ absurd (omega (arith, e, l)) | inr g ↦ (g.0, λ none. g.1) ]
-
 -- what a put under way implies about what is kept: it began before a close had ended, or after
 abbrev Tells : Capacity → List ℕ → PutTurn → TakeTurn → (lacked done : ℕ) → List ℕ → Type 0
 Tells capacity inside put take lacked done left =
@@ -119,7 +115,7 @@ module _ (capacity : Capacity) (k : Kept) (sound : IsSoundPut (length k.inside) 
         let (wanted, before, ended, is, sum, fewer) = taking_tells k.take s.queue (lacked_by reply (length took) left) took left d'.consumer in
         let next = can_end_take capacity k.inside k.put k.take k.shut s.queue s.producer (lacked_by reply (length took) left) took left d' in
         let rest : left ≡ wanted - length took = omega (arith, sum) in
-        (kept (drop (length took) k.inside) k.put Rests k.shut, (wanted, before, ended, is, inl (grind (arith, finds_fewer before (length took) (lacked_by reply (length took) left) ended fewer)))))
+        (kept (drop (length took) k.inside) k.put Rests k.shut, (wanted, before, ended, is, inl (grind (arith)))))
     | inr (shuts, ec) ↦ (
         let d' = as_take FoundClosed ec in
         let (wanted, before, ended, is, drained) = drained_tells k.take s.queue d'.consumer in

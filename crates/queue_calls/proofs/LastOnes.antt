@@ -15,11 +15,6 @@ other a b f = grind (arith, nat_tests)
 -- ---- the first one that passes a test, from a place on
 
 module _ {X : Type 0} (p : X → Bool) (xs : List X) (i : ℕ) (d : X) (h : i < length xs) where
-  find_here : p (get_or xs i d) ≡ true → find p (drop i xs) ≡ Some (get_or xs i d)
-  find_here e = rw (drop_more xs i d h, e) refl
-
-  find_on : p (get_or xs i d) ≡ false → find p (drop i xs) ≡ find p (drop (i + 1) xs)
-  find_on e = rw (drop_more xs i d h, e) refl
 
   -- the last one that passes it, before a place
   last_here : p (get_or xs i d) ≡ true → find p (reverse (take (i + 1) xs)) ≡ Some (get_or xs i d)
@@ -33,10 +28,10 @@ module _ {X : Type 0} (p : X → Bool) (xs : List X) (i : ℕ) (d : X) (h : i < 
 module _ (item place i : ℕ) (entries : List Offered) (same : comes item (drop place entries) ≡ comes item (drop i entries)) where
   module _ (e : Offered) (is : e ≡ at entries i) (h : i < length entries) where
     pub comes_here : e.item ≡ item → true ≡ comes item (drop place entries)
-    comes_here equal = grind (arith, eq-eqb, find_here)
+    comes_here equal = grind (arith, eq-eqb, drop_more)
 
     pub comes_on : (e.item ≡ item → ⊥) → comes item (drop place entries) ≡ comes item (drop (i + 1) entries)
-    comes_on differs = grind (arith, other, find_on)
+    comes_on differs = grind (arith, other, drop_more)
 
   pub comes_not : length entries ≤ i → false ≡ comes item (drop place entries)
   comes_not h = rw (same, drop_all i entries h) refl
@@ -81,15 +76,10 @@ module _ (item i : ℕ) (all : List Taken) (same : last_taken_of item all ≡ la
 -- ---- the last ones of a list, of which `limit` are kept
 
 module _ {A : Type 0} (limit : ℕ) (xs : List A) where
-  length_last : length (last_of limit xs) ≡ length xs - (length xs - limit)
-  length_last = length-drop (length xs - limit) xs
 
   module _ (some : 0 < limit) (x : A) where
     last_full : limit ≤ length (last_of limit xs) → last_of limit (xs ++ x ∷ []) ≡ drop 1 (last_of limit xs) ++ x ∷ []
-    last_full full = grind (arith, length xs, length (xs ++ x ∷ []), length_last, length-append xs (x ∷ []), drop, drop-append-le, drop-drop 1 (length xs - limit) xs)
-
-    last_room : length (last_of limit xs) < limit → last_of limit (xs ++ x ∷ []) ≡ last_of limit xs ++ x ∷ []
-    last_room room = grind (arith, length, length_last, length-append, drop)
+    last_full full = grind (arith, length xs, length (xs ++ x ∷ []), length-drop, length, length-append xs (x ∷ []), drop, drop-append-le, drop-drop 1 (length xs - limit) xs)
 
 -- if none is kept there are none
 pub last_none_kept : {A : Type 0} (limit : ℕ) (xs : List A) → limit ≡ 0 → last_of limit xs ≡ []
@@ -108,10 +98,6 @@ module _ (earlier : List Taken) (line : ℕ) (items : List ℕ) where
 abbrev pub MakesRoom : {A : Type 0} → ℕ → List A → List A → Type 0
 MakesRoom limit before kept = ((limit ≤ length before) × (kept ≡ drop 1 before)) ⊎ ((length before < limit) × (kept ≡ before))
 
-last_more :
-    {A : Type 0} (limit : ℕ) (some : 0 < limit) (xs : List A) (x : A) (kept : List A) → MakesRoom limit (last_of limit xs) kept → last_of limit (xs ++ x ∷ []) ≡ kept ++ x ∷ []
-last_more limit some xs x kept room = grind (arith, last_full, last_room)
-
 -- what was taken last, after earlier ones and these of the line
 abbrev pub taken_behind : (limit : ℕ) → (earlier : List Taken) → (line : ℕ) → List ℕ → List Taken
 taken_behind limit earlier line items = last_of limit (earlier ++ map (taken_at line) items)
@@ -120,10 +106,10 @@ module _ (limit : ℕ) (some : 0 < limit) (earlier : List Taken) (line : ℕ) (i
   module _ (is : before ≡ taken_behind limit earlier line (take i items)) (room : MakesRoom limit before kept) where
     pub took_more : kept ++ taken_at line (get_or items i 0) ∷ [] ≡ taken_behind limit earlier line (take (i + 1) items)
     took_more =
-        grind (arith, map (taken_at line) (take (i + 1) items), map (taken_at line) (take i items), take (i + 1) items, take i items, get_or items i 0, map_more (taken_at line) items i 0 h, append_assoc earlier (map (taken_at line) (take i items)) (taken_at line (get_or items i 0) ∷ []), last_more)
+        grind (arith, map (taken_at line) (take (i + 1) items), map (taken_at line) (take i items), take (i + 1) items, take i items, get_or items i 0, map_more (taken_at line) items i 0 h, append_assoc earlier (map (taken_at line) (take i items)) (taken_at line (get_or items i 0) ∷ []), last_full, length, length-drop, length-append, drop)
 
     pub took_few : (length kept < limit) × (length kept < length earlier + length items)
-    took_few = grind (arith, length, map, take, length_last, length-append, length-map, length-take-le, length-drop)
+    took_few = grind (arith, length, map, take, length-drop, length-append, length-map, length-take-le)
 
 -- ---- entries changed from one place on and before another
 

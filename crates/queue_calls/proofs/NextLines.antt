@@ -58,10 +58,6 @@ module _ {S O T N B : Type 0} (offered : O → List Offered) (last : T → List 
     some_line : before ≢ []
     some_line none = omega (arith, ap length follows.1.2, ap length none)
 
-    -- a line that cannot come there
-    pub not_allowed : (word : Word) (numbers : List ℕ) → ¬ Allows word numbers → ¬ AreLines (before ++ line word numbers ∷ [])
-    not_allowed word numbers not are = not (is_line before (line_text word numbers) (line word numbers) (are, refl)).allowed
-
     pub tells_none : (word : Word) (numbers : List ℕ) → AreSmall numbers → Allows word numbers → event_told old.begun word numbers ≡ None → ¬ AreLines (before ++ line word numbers ∷ [])
     tells_none word numbers small allowed none are =
         not_further before (line_text word numbers) numbers numbers old.begun word (line word numbers) some_line none (record { text = refl; allowed = allowed; small = small }) (are, refl)
