@@ -139,23 +139,7 @@ module _ (past : List Event) (k : Kept) (a : Agrees past k) where
   take_begins wanted = grind (arith, long, offered_is)
 
   takes : (reply : Reply (List ℕ)) → is_shut reply ≡ false → AreNext (passed [] reply) k.inside → Then (TakeEnd reply) (kept (drop (length (passed [] reply)) k.inside) k.put Rests k.shut)
-  takes reply open' (rest, e) =
-      let items : List ℕ = passed [] reply in
-      record {
-        gone = a.gone ++ items;
-        row = grind (arith, drop-append_seam items rest, append_assoc a.gone items rest);
-        count = grind (arith, length-append a.gone items, length-append (taken past) (map (taken_at (line_behind past)) items), length-map items (taken_at (line_behind past)));
-        put_fits = a.put_fits;
-        take_fits = refl;
-        shut = grind (arith, told_on reply past);
-        told = λ g. let (none, begun) = a.told (sym (told_on reply past open') ∙ g) in (grind (arith, length, drop-append_seam items rest, append_right items rest), begun);
-        ended = a.ended;
-        steady = a.steady;
-      }
-    where
-      append_right : (xs ys : List ℕ) → xs ++ ys ≡ [] → ys ≡ []
-      append_right [] ys e = e
-      append_right (x ∷ xs) ys e = absurd cc
+  takes reply open' (rest, e) = grind (arith, drop-append_seam (passed [] reply) rest, append_assoc, length-append a.gone (passed [] reply), length-append (taken past) (map (taken_at (line_behind past)) (passed [] reply)), length-map (passed [] reply) (taken_at (line_behind past)), told_on reply past, length-append (passed [] reply) rest)
 
   begun_fits :
       (put : PutTurn) (shut : Bool) → PutAgrees past put →

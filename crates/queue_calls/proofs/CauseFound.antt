@@ -4,14 +4,14 @@ use Rattle.std.proofs.lemmas.Bool.{false_from_ne_true, or_from, or_parts, not-fa
 use Rattle.std.proofs.lemmas.Option.{none-some}
 use Rattle.queue_calls.specs.Queue.{Capacity, LacksRoom}
 use Rattle.queue_calls.specs.Calls.{Event, PutBegin, PutEnd, CloseBegin, CloseEnd, TakeBegin, TakeEnd, Reply, Passed, Lacked, Short, Nothing, Shut, passed, is_shut, CanReply, lacked_by, IsLinearizable}
-use Rattle.queue_calls.specs.InTurn.{NoCall, APut, AClose, ATake, Sides, sides, MovesSides}
+use Rattle.queue_calls.specs.InTurn.{NoCall, APut, ATake, Sides, sides, MovesSides}
 use Rattle.queue_calls.specs.State.{IsProper, MayHold, AreNext, CanEndPut, CanEndTake, offered_by, asked_by, call_of_put, call_of_take, sides_of}
 use Rattle.queue_calls.specs.Counting.{Kept, kept, without, FoundFewer, Counts, AreCounted}
 use Rattle.queue_calls.specs.Reasons.{line_behind, stored_at, has_ended, has_told, before_put, before_take, offers, stored, wanted, n_of, k_of, coming, can_hold, can_lack, stored_cause, full_cause, put_short_cause, not_taken_cause, fewer_cause, items_cause, empty_cause, take_short_cause, closed_cause, cause_of, CauseIsReason, FaultHasACause, items_of}
 use Rattle.call_causes.specs.declared.causes.Cause.{Cause}
 use Rattle.call_causes.specs.declared.entries.Offered.{Offered}
 use Rattle.queue_calls.specs.declared.turns.PutTurn.{PutTurn}
-use Rattle.queue_calls.specs.declared.turns.PutTurn.TheVariants.{Free, Offers, Late, Closes}
+use Rattle.queue_calls.specs.declared.turns.PutTurn.TheVariants.{Free, Offers, Late}
 use Rattle.queue_calls.specs.declared.turns.TakeTurn.{TakeTurn}
 use Rattle.queue_calls.specs.declared.turns.TakeTurn.TheVariants.{Rests, Waits}
 use Rattle.queue_calls.proofs.Agrees.{Agrees}

@@ -111,13 +111,7 @@ one_or_before :
 one_or_before events [] rest event e = inr (events, refl)
 one_or_before [] (b ∷ []) rest event e = inl cc
 one_or_before [] (b ∷ c ∷ before) rest event e = absurd (omega (arith, ap length e))
-one_or_before (x ∷ events) (b ∷ before) rest event e =
-    let tails : events ++ event ∷ [] ≡ before ++ rest = cc in
-    let heads : x ≡ b = cc in
-    elim (one_or_before events before rest event tails) [
-      | inl same ↦ inl cc
-      | inr m ↦ (let (more, parts) = m in inr (more, cc))
-    ]
+one_or_before (x ∷ events) (b ∷ before) rest event e = grind (arith, one_or_before events before rest event)
 
 each_more : (Holds : List Event → Type 0) (events : List Event) (event : Event) → AtEach Holds events → Holds (events ++ event ∷ []) → AtEach Holds (events ++ event ∷ [])
 each_more Holds events event each here before rest e = grind (arith, one_or_before)

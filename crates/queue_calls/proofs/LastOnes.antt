@@ -12,11 +12,9 @@ use Rattle.queue_calls.specs.Witnesses.{agreed, comes, last_taken_of}
 other : (a b : ℕ) → (a ≡ b → ⊥) → a == b ≡ false
 other a b f = grind (arith, nat_tests)
 
--- ---- the first one that passes a test, from a place on
+-- ---- the last one that passes a test, before a place
 
 module _ {X : Type 0} (p : X → Bool) (xs : List X) (i : ℕ) (d : X) (h : i < length xs) where
-
-  -- the last one that passes it, before a place
   last_here : p (get_or xs i d) ≡ true → find p (reverse (take (i + 1) xs)) ≡ Some (get_or xs i d)
   last_here e = rw (take_more xs i d h, reverse-append (take i xs) (get_or xs i d ∷ []), e) refl
 
@@ -76,7 +74,6 @@ module _ (item i : ℕ) (all : List Taken) (same : last_taken_of item all ≡ la
 -- ---- the last ones of a list, of which `limit` are kept
 
 module _ {A : Type 0} (limit : ℕ) (xs : List A) where
-
   module _ (some : 0 < limit) (x : A) where
     last_full : limit ≤ length (last_of limit xs) → last_of limit (xs ++ x ∷ []) ≡ drop 1 (last_of limit xs) ++ x ∷ []
     last_full full = grind (arith, length xs, length (xs ++ x ∷ []), length-drop, length, length-append xs (x ∷ []), drop, drop-append-le, drop-drop 1 (length xs - limit) xs)

@@ -19,7 +19,7 @@ use Rattle.call_lines.specs.declared.lines.Word.{Word}
 use Rattle.queue_calls.specs.declared.recordings.CallsFinding.{CallsFinding}
 use Rattle.queue_calls.specs.declared.reports.Tally.{Tally}
 use Rattle.queue_calls.specs.declared.witnesses.Witness.{Witness}
-use Rattle.queue_calls.proofs.HeardLines.{count_is, events_more, further_heard, further_line, is_line, not_further}
+use Rattle.queue_calls.proofs.HeardLines.{count_is, events_more, further_heard, further_line, not_further}
 
 pub no_fault_is : (fault : Option CallsFinding) → is_some fault ≡ false → fault ≡ None
 no_fault_is fault is = grind (arith, false≢true)
