@@ -2,19 +2,12 @@
 use Rattle.std.proofs.Common.{◌≡◌, ◌⊎◌, inl, inr, ℕ, ◌+◌, ◌-◌, ◌≤◌, Bool, true, false, ◌||◌, List, [], ◌∷◌, ◌++◌, map, length, take, drop, reverse, refl, sym, ap, subst, ◌∙◌, arith, length-append, append_assoc, append-nil}
 use Rattle.std.proofs.lemmas.Bool.{or_left, or_parts}
 use Rattle.std.proofs.lemmas.List.{length-map, map-append, take-map, drop-map, reverse-append}
-use Rattle.std.proofs.Math.Seq.{take-append-add, take-nil, drop-append_seam}
-use Rattle.queue_calls.specs.Queue.{Capacity}
+use Rattle.queue_calls.proofs.Common.{take-append-add, take-nil, drop-append_seam, Capacity, AreNext, offered_by, asked_by, has_closed, Kept, kept, without, Counts, Offered, PutTurn, Free, Offers}
+use Rattle.queue_calls.proofs.Common.{Late, Closes, TakeTurn, Rests, Waits}
 use Rattle.queue_calls.specs.Calls.{Event, PutBegin, PutEnd, CloseBegin, CloseEnd, TakeBegin, TakeEnd, Reply, passed, is_shut}
-use Rattle.queue_calls.specs.State.{AreNext, offered_by, asked_by, has_closed}
-use Rattle.queue_calls.specs.Counting.{Kept, kept, without, Counts}
-use Rattle.call_causes.specs.declared.entries.Offered.{Offered}
 use Rattle.queue_calls.proofs.Agrees.{PutAgrees, TakeAgrees, Agrees}
 use Rattle.queue_calls.proofs.Replies.{few, shut_is, told_on}
 use Rattle.queue_calls.specs.Reasons.{line_behind, has_begun, has_ended, has_told, before_take, offered_at, stored_at, taken_at, offers, stored, taken, wanted, n_of, k_of, coming, items_of}
-use Rattle.queue_calls.specs.declared.turns.PutTurn.{PutTurn}
-use Rattle.queue_calls.specs.declared.turns.PutTurn.TheVariants.{Free, Offers, Late, Closes}
-use Rattle.queue_calls.specs.declared.turns.TakeTurn.{TakeTurn}
-use Rattle.queue_calls.specs.declared.turns.TakeTurn.TheVariants.{Rests, Waits}
 
 pub both : (A : Type 0) (b : Bool) → b ≡ true → b ≡ false → A
 both A b e f = grind arith

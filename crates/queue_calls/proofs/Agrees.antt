@@ -1,13 +1,7 @@
 -- What an auditor keeps of a history agrees with the past: it counts by differences what a cause reports in full.
 use Rattle.std.proofs.Common.{◌≡◌, ℕ, ◌+◌, ◌-◌, ◌≤◌, Bool, true, false, ◌||◌, List, [], ◌++◌, length}
-use Rattle.queue_calls.specs.Calls.{Event}
-use Rattle.queue_calls.specs.Counting.{Kept}
+use Rattle.queue_calls.proofs.Common.{Event, Kept, Offered, PutTurn, Free, Offers, Late, Closes, TakeTurn, Rests, Waits}
 use Rattle.queue_calls.specs.Reasons.{has_begun, has_ended, has_told, before_put, before_take, offers, stored, wanted, n_of, k_of, items_of}
-use Rattle.call_causes.specs.declared.entries.Offered.{Offered}
-use Rattle.queue_calls.specs.declared.turns.PutTurn.{PutTurn}
-use Rattle.queue_calls.specs.declared.turns.PutTurn.TheVariants.{Free, Offers, Late, Closes}
-use Rattle.queue_calls.specs.declared.turns.TakeTurn.{TakeTurn}
-use Rattle.queue_calls.specs.declared.turns.TakeTurn.TheVariants.{Rests, Waits}
 
 -- what the producer has under way, by what is offered, whether a close had ended before the put, how many were taken then, how many are
 -- stored, and whether a close has begun and ended

@@ -1,19 +1,10 @@
 -- Nothing contradicts an event after a past exactly when the event can be counted.
 use Rattle.std.proofs.Common.{◌≡◌, ◌↔◌, ◌⊎◌, inl, inr, ℕ, suc, ◌+◌, ◌-◌, ◌<◌, ◌≤◌, nat_lt, Bool, true, false, ◌==◌, not, ◌&&◌, Some, None, List, [], ◌∷◌, ◌++◌, map, length, take, drop, reverse, refl, sym, ap, subst, ◌∙◌, arith, length-append, append_assoc, append-nil}
 use Rattle.std.proofs.lemmas.Bool.{false_from_ne_true, or_from, or_parts, not-false, not_from_true, ltb-true, ltb-false, lt-ltb, le-ltb, eqb-true, eqb-false, eq-eqb, ne_eqb, cond-true, cases_Bool}
-use Rattle.std.proofs.lemmas.Option.{none-some}
-use Rattle.queue_calls.specs.Queue.{Capacity, LacksRoom}
+use Rattle.queue_calls.proofs.Common.{none-some, Capacity, LacksRoom, NoCall, APut, ATake, Sides, sides, MovesSides, IsProper, MayHold, AreNext, CanEndPut, CanEndTake, offered_by, asked_by}
+use Rattle.queue_calls.proofs.Common.{call_of_put, call_of_take, sides_of, Kept, kept, without, FoundFewer, Counts, AreCounted, Cause, Offered, PutTurn, Free, Offers, Late, TakeTurn, Rests, Waits}
 use Rattle.queue_calls.specs.Calls.{Event, PutBegin, PutEnd, CloseBegin, CloseEnd, TakeBegin, TakeEnd, Reply, Passed, Lacked, Short, Nothing, Shut, passed, is_shut, CanReply, lacked_by, IsLinearizable}
-use Rattle.queue_calls.specs.InTurn.{NoCall, APut, ATake, Sides, sides, MovesSides}
-use Rattle.queue_calls.specs.State.{IsProper, MayHold, AreNext, CanEndPut, CanEndTake, offered_by, asked_by, call_of_put, call_of_take, sides_of}
-use Rattle.queue_calls.specs.Counting.{Kept, kept, without, FoundFewer, Counts, AreCounted}
 use Rattle.queue_calls.specs.Reasons.{line_behind, stored_at, has_ended, has_told, before_put, before_take, offers, stored, wanted, n_of, k_of, coming, can_hold, can_lack, stored_cause, full_cause, put_short_cause, not_taken_cause, fewer_cause, items_cause, empty_cause, take_short_cause, closed_cause, cause_of, CauseIsReason, FaultHasACause, items_of}
-use Rattle.call_causes.specs.declared.causes.Cause.{Cause}
-use Rattle.call_causes.specs.declared.entries.Offered.{Offered}
-use Rattle.queue_calls.specs.declared.turns.PutTurn.{PutTurn}
-use Rattle.queue_calls.specs.declared.turns.PutTurn.TheVariants.{Free, Offers, Late}
-use Rattle.queue_calls.specs.declared.turns.TakeTurn.{TakeTurn}
-use Rattle.queue_calls.specs.declared.turns.TakeTurn.TheVariants.{Rests, Waits}
 use Rattle.queue_calls.proofs.Agrees.{Agrees}
 use Rattle.queue_calls.proofs.Agreeing.{both, long, offered_is, asked_is, coming_is, begun_is, as_put, as_take, closing, turned_behind, step, at_first, offers_none, ended_grows}
 use Rattle.queue_calls.proofs.CauseTests.{can_hold_tells, can_lack_tells, and_off, and_of, and_told, none_off, off, none_on, some_or}

@@ -1,9 +1,7 @@
 -- What the tests for causes imply.
 use Rattle.std.proofs.Common.{◌≡◌, ◌↔◌, ℕ, ◌+◌, Bool, true, false, ◌&&◌, if◌then◌else◌, Option, Some, None, refl}
 use Rattle.std.proofs.lemmas.Bool.{both_ways, false_from_ne_true, ltb-true, lt-ltb, leb-true, le-leb}
-use Rattle.queue_calls.specs.Queue.{Capacity, Unbounded, Between, LacksRoom}
-use Rattle.queue_calls.specs.State.{MayHold}
-use Rattle.queue_calls.specs.Reasons.{can_hold, can_lack}
+use Rattle.queue_calls.proofs.Common.{Capacity, Unbounded, Between, LacksRoom, MayHold, can_hold, can_lack}
 
 -- what a queue can be
 pub can_hold_tells : (capacity : Capacity) (n : ℕ) → (can_hold capacity n ≡ true) ↔ MayHold capacity n

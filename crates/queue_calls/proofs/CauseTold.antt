@@ -5,18 +5,10 @@ use Rattle.std.specs.Prelude.{unwrap_or, find, map, nat_eq}
 use Rattle.std.proofs.Math.Seq.{drop-cons}
 use Rattle.std.proofs.lemmas.List.{drop_all, length-take-le, take_all}
 use Rattle.std.proofs.lemmas.Bool.{eqb-true, lt-ltb, eq-eqb, ne_eqb, false_from_ne_true, cond-true}
-use Rattle.queue_calls.specs.Queue.{Capacity}
-use Rattle.queue_calls.specs.Calls.{Event}
-use Rattle.queue_calls.specs.Counting.{Kept}
-use Rattle.queue_calls.specs.State.{MayHold, offered_by, asked_by, has_closed}
-use Rattle.queue_calls.specs.Reasons.{at, before_put, before_stored, before_take, closed_cause, coming, empty_cause, ended_line, fewer_cause, full_cause, has_begun, has_ended, has_told, items_cause, k_of, last_taken, line_behind, n_of, not_taken_cause, offers, put_short_cause, stored_cause, take_short_cause, taken_at, wanted}
-use Rattle.queue_calls.specs.Witnesses.{agreed}
-use Rattle.call_causes.specs.declared.causes.Cause.{Cause}
+use Rattle.queue_calls.proofs.Common.{Capacity, Event, Kept, MayHold, offered_by, asked_by, has_closed, at, before_put, before_stored, before_take, closed_cause, coming, empty_cause, ended_line}
+use Rattle.queue_calls.proofs.Common.{fewer_cause, full_cause, has_begun, has_ended, has_told, items_cause, k_of, last_taken, line_behind, n_of, not_taken_cause, offers, put_short_cause, stored_cause}
+use Rattle.queue_calls.proofs.Common.{take_short_cause, taken_at, wanted, agreed, Cause, Offered, Taken, Offers, Late, Waits}
 use Rattle.call_causes.specs.declared.causes.Cause.TheVariants.{StoredAfterClose, OnlySomeStored, StoredTooMany, OnlySomeWithRoom, FullWithRoom, FullAfterClose, NotStoredButTaken, ShortWithRoom, NoMoreWhileInside, NotTaken, EmptyWhileInside, EmptyAfterClose, ShortWhileInside, ShortAfterClose, ClosedBeforeClose, ClosedWhileInside}
-use Rattle.call_causes.specs.declared.entries.Offered.{Offered}
-use Rattle.call_causes.specs.declared.entries.Taken.{Taken}
-use Rattle.queue_calls.specs.declared.turns.PutTurn.TheVariants.{Offers, Late}
-use Rattle.queue_calls.specs.declared.turns.TakeTurn.TheVariants.{Waits}
 use Rattle.queue_calls.proofs.Agrees.{Agrees}
 use Rattle.queue_calls.proofs.Agreeing.{as_put, as_take, both, begun_is, closing, ended_grows, long, offers_none}
 use Rattle.queue_calls.proofs.CauseFound.{all_inside, least_left, least_stored, most_inside, no_more, none_found, fewer_found, rest_inside, stored_fit}

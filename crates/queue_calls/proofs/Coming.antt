@@ -1,14 +1,10 @@
 -- The entries that come next, with their lines, after an event that can be counted. Other events leave them unchanged.
 use Rattle.std.proofs.Common.{◌≡◌, ℕ, zero, suc, ◌-◌, ◌≤◌, Bool, true, false, if◌then◌else◌, List, [], ◌∷◌, ◌++◌, map, length, take, drop, refl, sym, ap, subst, ◌∙◌, arith, length-append, append-nil}
-use Rattle.std.proofs.lemmas.Bool.{or_parts}
+use Rattle.queue_calls.proofs.Common.{or_parts, take-append-add, take-nil, Kept, Offered, Free, Offers, Late}
 use Rattle.std.proofs.lemmas.List.{length-map, drop-map, drop-take, drop-drop}
-use Rattle.std.proofs.Math.Seq.{take-append-add, take-nil}
 use Rattle.queue_calls.specs.Calls.{Event, PutBegin, PutEnd, TakeEnd, Reply, passed}
-use Rattle.queue_calls.specs.Counting.{Kept}
 use Rattle.queue_calls.proofs.Agrees.{Agrees}
 use Rattle.queue_calls.specs.Reasons.{line_behind, has_ended, has_told, offered_at, stored_at, offers, stored, k_of, coming}
-use Rattle.call_causes.specs.declared.entries.Offered.{Offered}
-use Rattle.queue_calls.specs.declared.turns.PutTurn.TheVariants.{Free, Offers, Late}
 use Rattle.queue_calls.proofs.Agreeing.{as_put, long, is_late}
 
 -- the entries of a list, with those after its first part changed; and from a place on

@@ -1,13 +1,7 @@
 -- Histories whose events can be counted are linearizable.
 use Rattle.std.proofs.Common.{◌≡◌, inl, inr, ℕ, Bool, true, false, List, [], ◌∷◌, ◌++◌, length, sym, subst, append_assoc}
 use Rattle.std.proofs.lemmas.List.{append-nil}
-use Rattle.queue_calls.specs.Queue.{Capacity}
-use Rattle.queue_calls.specs.Calls.{Event, PutBegin, PutEnd, CloseBegin, CloseEnd, TakeBegin, TakeEnd, IsLinearizable}
-use Rattle.queue_calls.specs.declared.turns.PutTurn.{PutTurn}
-use Rattle.queue_calls.specs.declared.turns.PutTurn.TheVariants.{Free, Offers, Late, Closes}
-use Rattle.queue_calls.specs.declared.turns.TakeTurn.{TakeTurn}
-use Rattle.queue_calls.specs.declared.turns.TakeTurn.TheVariants.{Rests, Waits}
-use Rattle.queue_calls.specs.State.{Keeps}
+use Rattle.queue_calls.proofs.Common.{Capacity, Event, PutBegin, PutEnd, CloseBegin, CloseEnd, TakeBegin, TakeEnd, IsLinearizable, PutTurn, Free, Offers, Late, Closes, TakeTurn, Rests, Waits, Keeps}
 use Rattle.queue_calls.specs.Counting.{Kept, kept, Counts, AreCounted, CountedIsLinearizable}
 use Rattle.queue_calls.proofs.Keeping.{some}
 use Rattle.queue_calls.proofs.Ends.PutBegins.{put_begin, late_begin}

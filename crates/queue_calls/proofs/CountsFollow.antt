@@ -1,13 +1,8 @@
 -- The events of a linearizable history can be counted.
 use Rattle.std.proofs.Common.{◌≡◌, ◌⊎◌, inl, inr, ℕ, ◌+◌, ◌-◌, Bool, true, false, List, [], ◌∷◌, ◌++◌, length, drop, refl, sym, subst, arith, length-append, append_assoc}
-use Rattle.std.proofs.lemmas.Bool.{cases_Bool}
-use Rattle.queue_calls.specs.Queue.{Capacity, Queue, IsDrained}
-use Rattle.queue_calls.specs.Calls.{Event, PutBegin, PutEnd, CloseBegin, CloseEnd, TakeBegin, TakeEnd, passed, CanReply, lacked_by, Happens, Producer, Idle, Putting, FoundShut, Consumer, Resting, Taking, FoundClosed, Point, point, Leads, IsLinearizable}
-use Rattle.queue_calls.specs.declared.turns.PutTurn.{PutTurn}
-use Rattle.queue_calls.specs.declared.turns.PutTurn.TheVariants.{Free, Offers, Late, Closes}
-use Rattle.queue_calls.specs.declared.turns.TakeTurn.{TakeTurn}
-use Rattle.queue_calls.specs.declared.turns.TakeTurn.TheVariants.{Rests, Waits}
-use Rattle.queue_calls.specs.State.{MayLack, MayFindFewer, FitsPut, FitsTake, Describes, offered_by, asked_by, IsSoundPut, AreNext, CanEndPut, CanEndTake}
+use Rattle.queue_calls.proofs.Common.{cases_Bool, Capacity, Queue, IsDrained, Event, PutBegin, PutEnd, CloseBegin, CloseEnd, TakeBegin, TakeEnd, passed, CanReply, lacked_by, Happens, Producer, Idle}
+use Rattle.queue_calls.proofs.Common.{Putting, FoundShut, Consumer, Resting, Taking, FoundClosed, Point, point, Leads, IsLinearizable, PutTurn, Free, Offers, Late, Closes, TakeTurn, Rests, Waits}
+use Rattle.queue_calls.proofs.Common.{MayLack, MayFindFewer, FitsPut, FitsTake, Describes, offered_by, asked_by, IsSoundPut, AreNext, CanEndPut, CanEndTake}
 use Rattle.queue_calls.specs.Counting.{Kept, kept, without, Counts, AreCounted, CountsAreExact}
 use Rattle.queue_calls.proofs.Replies.{none_is, shut_is}
 use Rattle.queue_calls.proofs.Rooms.{holds_fewer}

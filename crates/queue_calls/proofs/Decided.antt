@@ -1,18 +1,12 @@
 -- What follows from an auditor's decision: it reads the event.
 use Rattle.std.proofs.Common.{◌≡◌, ℕ, false, List, [], ◌∷◌, ◌++◌, Result, Ok, Err, sym, subst}
-use Rattle.queue_calls.specs.Queue.{Capacity}
-use Rattle.queue_calls.specs.Calls.{Event}
-use Rattle.queue_calls.specs.InTurn.{NoCall, sides}
-use Rattle.queue_calls.specs.State.{Keeps, sides_of}
+use Rattle.queue_calls.proofs.Common.{Capacity, Event, NoCall, sides, Keeps, sides_of, meant, PutTurn, Free}
 use Rattle.queue_calls.specs.Audits.{Audits, Reads, RefusesEvent, HasMoreItems}
 use Rattle.queue_calls.specs.Counting.{Kept, kept_by}
 use Rattle.queue_calls.specs.Deciding.{Decides, RefusesCount}
-use Rattle.queue_calls.specs.Told.{meant}
 use Rattle.queue_calls.specs.declared.auditors.CallAuditor.{CallAuditor}
 use Rattle.queue_calls.specs.declared.faults.Fault.{Fault}
 use Rattle.queue_calls.specs.declared.faults.Fault.TheVariants.{OutOfTurn, NotLinearizable, OutOfMemory}
-use Rattle.queue_calls.specs.declared.turns.PutTurn.{PutTurn}
-use Rattle.queue_calls.specs.declared.turns.PutTurn.TheVariants.{Free}
 use Rattle.queue_calls.proofs.TurnLemmas.{one_turn_more}
 use Rattle.queue_calls.proofs.Keeping.{turn_away}
 use Rattle.queue_calls.proofs.CountedHistories.{Stands, counts_keeps, stands_linear}

@@ -1,10 +1,7 @@
 -- If an operation takes effect, what an auditor keeps describes the point that follows.
 use Rattle.std.proofs.Common.{◌≡◌, ℕ, suc, ◌+◌, ◌<◌, ◌≤◌, Bool, true, false, List, [], ◌∷◌, ◌++◌, length, refl, arith, length-append, append_assoc}
-use Rattle.queue_calls.specs.Queue.{Capacity, Enqueue, FindNoRoom, FindShut, Close, Dequeue, FindFewer, FindClosed, Queue, queue}
-use Rattle.queue_calls.specs.Calls.{Producer, Closing, Consumer, Taking, Point, point}
-use Rattle.queue_calls.specs.declared.turns.PutTurn.{PutTurn}
-use Rattle.queue_calls.specs.declared.turns.TakeTurn.{TakeTurn}
-use Rattle.queue_calls.specs.State.{left_by, FitsPut, FitsTake, Describes, offered_by, IsSoundPut, IsSoundTake}
+use Rattle.queue_calls.proofs.Common.{Capacity, Enqueue, FindNoRoom, FindShut, Close, Dequeue, FindFewer, FindClosed, Queue, queue, Producer, Closing, Consumer, Taking, Point, point, PutTurn}
+use Rattle.queue_calls.proofs.Common.{TakeTurn, left_by, FitsPut, FitsTake, Describes, offered_by, IsSoundPut, IsSoundTake}
 use Rattle.queue_calls.proofs.Rooms.{holds_fewer, holds_one_more, lacks_with_more}
 use Rattle.queue_calls.proofs.Points.{Stays}
 

@@ -1,10 +1,6 @@
 -- What a full list implies about the history.
 use Rattle.std.proofs.Common.{ℕ, ◌+◌, ◌<◌, false, List, [], ◌∷◌, ◌++◌, length, arith, length-append}
-use Rattle.queue_calls.specs.Queue.{Capacity}
-use Rattle.queue_calls.specs.Calls.{Event, PutBegin}
-use Rattle.queue_calls.specs.declared.turns.PutTurn.TheVariants.{Free}
-use Rattle.queue_calls.specs.declared.turns.TakeTurn.{TakeTurn}
-use Rattle.queue_calls.specs.State.{Keeps}
+use Rattle.queue_calls.proofs.Common.{Capacity, Event, PutBegin, Free, TakeTurn, Keeps}
 use Rattle.queue_calls.specs.Audits.{HasMoreItems}
 use Rattle.queue_calls.proofs.Ends.PutBegins.{put_begin}
 

@@ -1,18 +1,10 @@
 -- One more line after lines, and lines that cannot come after them.
 use Rattle.std.proofs.Common.{◌≡◌, ◌≢◌, ℕ, ◌+◌, Bool, Option, Some, None, List, [], ◌∷◌, ◌++◌, length, refl, ap, sym, subst, ◌∙◌, arith}
-use Rattle.std.specs.Prelude.{All}
-use Rattle.std.proofs.lemmas.List.Elements.{All-append, All-cons, All-head, All-nil, All-tail}
-use Rattle.std.proofs.lemmas.Option.{none-some}
-use Rattle.queue_calls.specs.Calls.{Event}
-use Rattle.call_lines.specs.Lines.{IsLine}
-use Rattle.queue_calls.specs.Recordings.{Line, line, first_word, IsOfFormat, IsFurther, AreLines, capacity_told, event_told, begun_after, begun_behind, and_then, events_told}
+use Rattle.queue_calls.proofs.Common.{All, All-append, All-cons, All-head, All-nil, All-tail, none-some, Event, IsLine, Line, line, first_word, IsOfFormat, IsFurther, AreLines, capacity_told}
+use Rattle.queue_calls.proofs.Common.{event_told, begun_after, begun_behind, and_then, events_told, Word, Offered, Taken, Hearing}
 use Rattle.queue_calls.specs.RecordingStates.{HasHeard, HeardLines, ContinuesLines}
-use Rattle.call_lines.specs.declared.lines.Word.{Word}
 use Rattle.queue_calls.specs.declared.hearings.Begun.{Begun}
 use Rattle.queue_calls.specs.declared.hearings.Begun.TheVariants as begun
-use Rattle.call_causes.specs.declared.entries.Offered.{Offered}
-use Rattle.call_causes.specs.declared.entries.Taken.{Taken}
-use Rattle.queue_calls.specs.declared.hearings.Hearing.{Hearing}
 use Rattle.call_lines.proofs.LineLemmas.{line_same}
 
 -- ---- events

@@ -1,25 +1,12 @@
 -- What was heard of a history: a fault stays the first; an event that is refused is the first fault; and one that is not is counted.
 use Rattle.std.proofs.Common.{◌≡◌, ℕ, ◌+◌, true, false, Option, List, [], ◌∷◌, ◌++◌, length, reverse, refl, ap, sym, subst, ◌∙◌, append_assoc, arith}
-use Rattle.std.specs.Prelude.{is_some, max}
-use Rattle.std.proofs.lemmas.Bool.{false≢true}
-use Rattle.queue_calls.specs.Queue.{Capacity}
-use Rattle.queue_calls.specs.Calls.{Event, IsLinearizable}
-use Rattle.queue_calls.specs.Counting.{Kept, kept}
-use Rattle.queue_calls.specs.State.{IsProper, offered_by}
+use Rattle.queue_calls.proofs.Common.{is_some, max, false≢true, Capacity, Event, IsLinearizable, Kept, kept, IsProper, offered_by, IsFaultSoFar, meant, Remembers, Offered, Taken, Free, Rests, Witness}
 use Rattle.call_lines.specs.Lines.{AllowsQueue}
 use Rattle.queue_calls.specs.Recordings.{capacity_told, IsFoundWithin, StopsAt}
-use Rattle.queue_calls.specs.RecordingStates.{IsFaultSoFar}
 use Rattle.queue_calls.specs.Reporting.{as_number, IsReport, IsSurelyInside, IsPerhapsInside}
 use Rattle.queue_calls.specs.Tallying.{HaveNumbersOf, IsTallied, IsToldOf, Tallies, least_kept, most_behind, most_kept, has_put, has_take}
-use Rattle.queue_calls.specs.Told.{meant}
-use Rattle.queue_calls.specs.Witnesses.{Remembers}
-use Rattle.call_causes.specs.declared.entries.Offered.{Offered}
-use Rattle.call_causes.specs.declared.entries.Taken.{Taken}
 use Rattle.queue_calls.specs.declared.reports.CallsReport.{CallsReport}
 use Rattle.queue_calls.specs.declared.reports.Tally.{Tally}
-use Rattle.queue_calls.specs.declared.turns.PutTurn.TheVariants.{Free}
-use Rattle.queue_calls.specs.declared.turns.TakeTurn.TheVariants.{Rests}
-use Rattle.queue_calls.specs.declared.witnesses.Witness.{Witness}
 use Rattle.queue_calls.specs.declared.recordings.CallsFinding.{CallsFinding}
 use Rattle.queue_calls.specs.declared.recordings.CallsFinding.TheVariants.{Lawful}
 use Rattle.queue_calls.proofs.Agreeing.{turned}

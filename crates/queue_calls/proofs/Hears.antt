@@ -3,22 +3,13 @@ use Rattle.std.proofs.Common.{◌≡◌, inl, inr, ℕ, zero, suc, ◌+◌, ◌-
 use Rattle.std.proofs.lemmas.List.{length-map, length-reverse, length-take-le, take_all}
 use Rattle.std.proofs.Math.Seq.{drop-length, take-length}
 use Rattle.std.specs.Option.{option_or}
-use Rattle.queue_calls.specs.Queue.{Capacity}
+use Rattle.queue_calls.proofs.Common.{Capacity, Kept, kept, Counts, before_put, before_stored, coming, ended_line, has_ended, has_told, items_of, k_of, last_of, last_taken, line_behind, offered_at}
+use Rattle.queue_calls.proofs.Common.{stored_at, taken, told_closed_line, Keeps, meant, Remembers, RefusesNext, mark_last, Offered, Taken, PutTurn, TakeTurn, Witness}
 use Rattle.queue_calls.specs.Calls.{Event, PutBegin, PutEnd, TakeEnd, Reply, passed, CanReply}
 use Rattle.queue_calls.specs.Audits.{RefusesEvent}
-use Rattle.queue_calls.specs.Counting.{Kept, kept, Counts}
 use Rattle.queue_calls.specs.Insides.{Moves}
 use Rattle.queue_calls.specs.Noting.{all_got, items_got}
-use Rattle.queue_calls.specs.Reasons.{before_put, before_stored, coming, ended_line, has_ended, has_told, items_of, k_of, last_of, last_taken, line_behind, offered_at, stored_at, taken, told_closed_line}
-use Rattle.queue_calls.specs.State.{Keeps}
-use Rattle.queue_calls.specs.Told.{meant}
-use Rattle.queue_calls.specs.Witnesses.{Remembers, RefusesNext, mark_last}
-use Rattle.call_causes.specs.declared.entries.Offered.{Offered}
-use Rattle.call_causes.specs.declared.entries.Taken.{Taken}
 use Rattle.queue_calls.specs.declared.faults.Fault.{Fault}
-use Rattle.queue_calls.specs.declared.turns.PutTurn.{PutTurn}
-use Rattle.queue_calls.specs.declared.turns.TakeTurn.{TakeTurn}
-use Rattle.queue_calls.specs.declared.witnesses.Witness.{Witness}
 use Rattle.queue_calls.proofs.Agrees.{Agrees}
 use Rattle.queue_calls.proofs.Agreeing.{long_coming, turned, turned_behind, items_stored}
 use Rattle.queue_calls.proofs.Coming.{late_begins, late_ends, open_begins, put_ends, took}

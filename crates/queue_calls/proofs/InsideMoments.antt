@@ -1,17 +1,10 @@
 -- How many items a queue has, at the points described by what an auditor keeps; and what is reported of them at each moment.
 use Rattle.std.proofs.Common.{◌≡◌, ◌⊎◌, inl, inr, ℕ, ◌+◌, ◌-◌, ◌≤◌, Bool, true, false, List, [], ◌∷◌, ◌++◌, length, take, drop, refl, sym, ap, subst, ◌∙◌, arith, length-append, length-drop, append_assoc}
-use Rattle.std.specs.Prelude.{max}
+use Rattle.queue_calls.proofs.Common.{max, Capacity, Unbounded, Between, Queue, queue, Event, PutBegin, Producer, Idle, Putting, FoundShut, Closing, Consumer, Resting, Taking, Point, point, Kept}
+use Rattle.queue_calls.proofs.Common.{kept, Counts, IsProper, MayHold, taken_by, left_by, FitsPut, FitsTake, Describes, offered_by, asked_by, TellsPoint, least_kept, most_kept, most_behind, PutTurn}
+use Rattle.queue_calls.proofs.Common.{Free, Offers, Late, Closes, TakeTurn, Rests, Waits}
 use Rattle.std.proofs.lemmas.List.{append-nil, take-append-drop, length-take, length-take-le}
-use Rattle.queue_calls.specs.Queue.{Capacity, Unbounded, Between, Queue, queue}
-use Rattle.queue_calls.specs.Calls.{Event, PutBegin, Producer, Idle, Putting, FoundShut, Closing, Consumer, Resting, Taking, Point, point}
-use Rattle.queue_calls.specs.Counting.{Kept, kept, Counts}
 use Rattle.queue_calls.specs.Reporting.{AtSome, AtEach, Surely, Perhaps, IsSurelyInside, IsPerhapsInside}
-use Rattle.queue_calls.specs.State.{IsProper, MayHold, taken_by, left_by, FitsPut, FitsTake, Describes, offered_by, asked_by, TellsPoint}
-use Rattle.queue_calls.specs.Tallying.{least_kept, most_kept, most_behind}
-use Rattle.queue_calls.specs.declared.turns.PutTurn.{PutTurn}
-use Rattle.queue_calls.specs.declared.turns.PutTurn.TheVariants.{Free, Offers, Late, Closes}
-use Rattle.queue_calls.specs.declared.turns.TakeTurn.{TakeTurn}
-use Rattle.queue_calls.specs.declared.turns.TakeTurn.TheVariants.{Rests, Waits}
 use Rattle.queue_calls.proofs.CountedHistories.{Stands}
 use Rattle.queue_calls.proofs.Ends.PutEnds.{few_taken}
 use Rattle.queue_calls.proofs.Ends.TakeBegins.{keeps_nothing}

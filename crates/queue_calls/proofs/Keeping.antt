@@ -1,15 +1,9 @@
 -- What an auditor keeps describes some point; and how it accepts or refuses an event.
 use Rattle.std.proofs.Common.{◌≡◌, inl, inr, ℕ, ◌+◌, ◌-◌, ◌≤◌, Bool, true, false, List, [], ◌∷◌, ◌++◌, length, take, drop, refl, sym, ap, subst, ◌∙◌, arith, length-append, length-drop}
 use Rattle.std.proofs.lemmas.List.{append-nil, take-append-drop, length-take-le}
-use Rattle.std.proofs.lemmas.Bool.{cases_lt}
-use Rattle.queue_calls.specs.Queue.{Capacity, Queue, queue}
-use Rattle.queue_calls.specs.Calls.{Event, Happens, Idle, Putting, FoundShut, Closing, Producer, Consumer, Resting, Taking, Point, point, Leads, CanLeadTo, IsLinearizable}
-use Rattle.queue_calls.specs.declared.turns.PutTurn.{PutTurn}
-use Rattle.queue_calls.specs.declared.turns.PutTurn.TheVariants.{Free, Offers, Late, Closes}
-use Rattle.queue_calls.specs.declared.turns.TakeTurn.{TakeTurn}
-use Rattle.queue_calls.specs.declared.turns.TakeTurn.TheVariants.{Rests, Waits}
-use Rattle.queue_calls.specs.State.{MayHold, taken_by, left_by, FitsPut, FitsTake, Describes, offered_by, asked_by, IsSoundPut, IsSoundTake, TellsPoint, Keeps, sides_of}
-use Rattle.queue_calls.specs.InTurn.{NoCall, Sides, sides, MovesSides, CallsAreInTurn}
+use Rattle.queue_calls.proofs.Common.{cases_lt, Capacity, Queue, queue, Event, Happens, Idle, Putting, FoundShut, Closing, Producer, Consumer, Resting, Taking, Point, point, Leads, CanLeadTo}
+use Rattle.queue_calls.proofs.Common.{IsLinearizable, PutTurn, Free, Offers, Late, Closes, TakeTurn, Rests, Waits, MayHold, taken_by, left_by, FitsPut, FitsTake, Describes, offered_by, asked_by}
+use Rattle.queue_calls.proofs.Common.{IsSoundPut, IsSoundTake, TellsPoint, Keeps, sides_of, NoCall, Sides, sides, MovesSides, CallsAreInTurn}
 use Rattle.queue_calls.proofs.Rooms.{holds_fewer, holds_none}
 use Rattle.queue_calls.proofs.TurnLemmas.{one_turn_more, last_turn, same_turns, linearizable_in_turn}
 use Rattle.queue_calls.proofs.Points.{last_event}

@@ -1,20 +1,13 @@
 -- The bytes of a line that has not ended: what is kept of them, and when they begin no line.
 use Rattle.std.proofs.Common.{◌≡◌, ◌≢◌, inl, inr, Bool, true, false, ℕ, ◌+◌, ◌*◌, ◌<◌, List, [], ◌∷◌, ◌++◌, length, get_or, refl, ap, sym, subst, ◌∙◌, append_assoc, length-append, arith}
 use Rattle.std.specs.Prelude.{◌==◌, All}
-use Rattle.std.proofs.Math.Seq.{take-length}
-use Rattle.std.proofs.lemmas.Bool.Decides.{nat_tests}
+use Rattle.queue_calls.proofs.Common.{take-length, nat_tests, All-append, All-head, All-tail, line_text, IsLine, Word, Line, first_word, lines_text, AreLines, IsBadLine, Offered, Taken}
 use Rattle.std.proofs.lemmas.List.{nil_from_length, take-append-le}
-use Rattle.std.proofs.lemmas.List.Elements.{All-append, All-head, All-tail}
 use Rattle.call_lines.specs.Beginnings.{BeginsLine, BeginsNoLine, tells_queue}
-use Rattle.call_lines.specs.Lines.{line_text, IsLine}
-use Rattle.call_lines.specs.declared.lines.Word.{Word}
 use Rattle.call_lines.specs.declared.lines.Word.TheVariants as word
 use Rattle.call_lines.proofs.BeginningLemmas.{nothing_begun, split}
-use Rattle.queue_calls.specs.Recordings.{Line, first_word, lines_text, AreLines, IsBadLine}
 use Rattle.line_parts.specs.LineEnds.{HasNoFeed}
 use Rattle.queue_calls.specs.RecordingStates.{HasLines, HasRead, KeepsBeginning}
-use Rattle.call_causes.specs.declared.entries.Offered.{Offered}
-use Rattle.call_causes.specs.declared.entries.Taken.{Taken}
 use Rattle.queue_calls.specs.declared.recordings.RecordingIn.{RecordingIn}
 use Rattle.queue_calls.proofs.HeardLines.{is_line}
 use Rattle.line_parts.proofs.LineFeeds.{feed_nowhere}

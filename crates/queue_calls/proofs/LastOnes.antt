@@ -1,12 +1,8 @@
 -- The loops of a witness over the items inside and those taken last.
 use Rattle.std.proofs.Common.{◌≡◌, ◌⊎◌, ℕ, ◌+◌, ◌-◌, ◌<◌, ◌≤◌, Bool, true, false, List, [], ◌∷◌, ◌++◌, Some, None, length, get_or, set, take, drop, map, reverse, refl, sym, ap, ap₂, ◌∙◌, arith, eq-eqb, append-nil, append_assoc, length-append, length-drop, length-take-le}
 use Rattle.std.specs.Prelude.{◌==◌, find, nat_lt}
-use Rattle.std.proofs.lemmas.Bool.Decides.{nat_tests}
+use Rattle.queue_calls.proofs.Common.{nat_tests, Offered, Taken, at, last_in, last_of, offered_at, stored_at, taken_at, agreed, comes, last_taken_of}
 use Rattle.std.proofs.lemmas.List.{drop-append-le, drop-drop, drop_all, drop_more, get_or-append_right, get_or-map, get_or_at, get_or_read, length-map, map_more, map_push, nil_from_length, reverse-append, set_at, take_more}
-use Rattle.call_causes.specs.declared.entries.Offered.{Offered}
-use Rattle.call_causes.specs.declared.entries.Taken.{Taken}
-use Rattle.queue_calls.specs.Reasons.{at, last_in, last_of, offered_at, stored_at, taken_at}
-use Rattle.queue_calls.specs.Witnesses.{agreed, comes, last_taken_of}
 
 -- numbers that differ are not equal by the test
 other : (a b : ℕ) → (a ≡ b → ⊥) → a == b ≡ false

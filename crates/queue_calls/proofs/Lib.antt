@@ -1,3 +1,4 @@
+pub mod Common
 pub mod Replies
 pub mod Ends
 pub mod Rooms

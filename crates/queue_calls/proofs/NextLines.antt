@@ -1,24 +1,12 @@
 -- One more line for a hearing.
 use Rattle.std.proofs.Common.{◌≡◌, ◌≢◌, ◌∙◌, ℕ, ◌+◌, ◌<◌, ◌^◌, Bool, false, Option, Some, None, List, [], ◌∷◌, ◌++◌, length, get_or, refl, sym, ap, subst, arith, append-nil}
-use Rattle.std.specs.Prelude.{is_some}
-use Rattle.std.proofs.lemmas.Bool.{false≢true}
+use Rattle.queue_calls.proofs.Common.{is_some, false≢true, Event, Capacity, OutgrowsLists, line_text, Allows, AreSmall, Line, line, lines_text, AreLines, begun_after, begun_behind, capacity_told}
+use Rattle.queue_calls.proofs.Common.{event_told, events_told, IsRecording, IsFoundWithin, IsFindingWithin, IsFaultSoFar, HasLongHistory, Offered, Taken, Hearing, Word, Witness}
 use Rattle.std.proofs.lemmas.List.Elements.{All-from_get_or}
-use Rattle.queue_calls.specs.Calls.{Event}
-use Rattle.queue_calls.specs.Queue.{Capacity}
-use Rattle.queue_calls.specs.Noting.{OutgrowsLists}
-use Rattle.call_lines.specs.Lines.{line_text, Allows, AreSmall}
-use Rattle.queue_calls.specs.Recordings.{Line, line, lines_text, AreLines, begun_after, begun_behind, capacity_told, event_told, events_told, IsRecording, IsFoundWithin, IsFindingWithin}
-use Rattle.queue_calls.specs.RecordingStates.{IsFaultSoFar}
-use Rattle.queue_calls.specs.Rooms.{HasLongHistory}
 use Rattle.queue_calls.specs.Hearings.{HasHeardAll, HearsNext, FollowsLines, IsNotLawful}
-use Rattle.call_causes.specs.declared.entries.Offered.{Offered}
-use Rattle.call_causes.specs.declared.entries.Taken.{Taken}
 use Rattle.queue_calls.specs.declared.hearings.Begun.TheVariants as begun
-use Rattle.queue_calls.specs.declared.hearings.Hearing.{Hearing}
-use Rattle.call_lines.specs.declared.lines.Word.{Word}
 use Rattle.queue_calls.specs.declared.recordings.CallsFinding.{CallsFinding}
 use Rattle.queue_calls.specs.declared.reports.Tally.{Tally}
-use Rattle.queue_calls.specs.declared.witnesses.Witness.{Witness}
 use Rattle.queue_calls.proofs.HeardLines.{count_is, events_more, further_heard, further_line, not_further}
 
 pub no_fault_is : (fault : Option CallsFinding) → is_some fault ≡ false → fault ≡ None

@@ -1,13 +1,10 @@
 -- The cases in which a list of a recording is too short: for a line, and for the text.
 use Rattle.std.proofs.Common.{◌≡◌, ◌⊎◌, inl, inr, Bool, ℕ, Option, Some, List, [], ◌∷◌, ◌++◌, refl, sym, ap, subst, ◌∙◌, append_assoc}
 use Rattle.std.proofs.lemmas.List.{append-nil}
-use Rattle.queue_calls.specs.Calls.{Event}
-use Rattle.queue_calls.specs.Noting.{OutgrowsLists}
+use Rattle.queue_calls.proofs.Common.{Event, OutgrowsLists, Line, line, first_word, lines_text, AreLines, and_then, begun_behind, capacity_told, event_told, events_told, Word}
 use Rattle.call_lines.specs.Lines.{line_text, BeginsWithNumbers}
-use Rattle.queue_calls.specs.Recordings.{Line, line, first_word, lines_text, AreLines, and_then, begun_behind, capacity_told, event_told, events_told}
 use Rattle.queue_calls.specs.Rooms.{AreTooShort, HasLongHistory, HasLongLine, HasManyNumbers, Rooms}
 use Rattle.call_causes.specs.declared.entries.TheConstants.{TAKEN_LIMIT}
-use Rattle.call_lines.specs.declared.lines.Word.{Word}
 use Rattle.queue_calls.specs.declared.hearings.Begun.TheVariants as begun
 use Rattle.queue_calls.proofs.HeardLines.{events_more}
 use Rattle.queue_calls.proofs.RecordingLemmas.{lines_more}

@@ -1,7 +1,6 @@
 -- One of the two sides: its state, the marks that move it, and what is picked by it.
 use Rattle.std.proofs.Common.{◌≡◌, ◌↔◌, ℕ, List, [], ◌∷◌, refl, subst}
-use Rattle.queue_calls.specs.Queue.{Capacity, Operation, Dequeue, FindFewer, FindClosed}
-use Rattle.queue_calls.specs.Calls.{TakeBegin, TakeEnd, Mark, Happens, Effect, Producer, Consumer, ProducerStep, ConsumerStep, Point, Leads}
+use Rattle.queue_calls.proofs.Common.{Capacity, Operation, Dequeue, FindFewer, FindClosed, TakeBegin, TakeEnd, Mark, Happens, Effect, Producer, Consumer, ProducerStep, ConsumerStep, Point, Leads}
 use Rattle.queue_calls.specs.Order.{Side, P, C, pick, side_of, doer_of, Numbered, numbered, OwnStep, Comes, Makes, AreProducerCalls, AreConsumerCalls}
 
 -- ---- what is picked

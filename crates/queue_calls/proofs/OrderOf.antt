@@ -1,8 +1,7 @@
 -- A history whose operations take effect at moments has an order of them.
 use Rattle.std.proofs.Common.{◌≡◌, ℕ, suc, ◌+◌, ◌≤◌, false, List, [], ◌∷◌, ◌++◌, length, refl, sym, ap, subst, ◌∙◌, arith, append_assoc}
 use Rattle.std.proofs.lemmas.List.{append-nil}
-use Rattle.queue_calls.specs.Queue.{Capacity, Operation, Queue, queue, Step, IsLegal}
-use Rattle.queue_calls.specs.Calls.{Event, Mark, Happens, Effect, Idle, Resting, Point, point, Leads, LeadTo, events_among, IsLinearizable}
+use Rattle.queue_calls.proofs.Common.{Capacity, Operation, Queue, queue, Step, IsLegal, Event, Mark, Happens, Effect, Idle, Resting, Point, point, Leads, LeadTo, events_among, IsLinearizable}
 use Rattle.queue_calls.specs.Order.{Side, P, C, pick, side_of, doer_of, numbered, own_events, OwnStep, Comes, Makes, numbered_in, RecordedOperation, recorded_operation, next_event, recorded_operations, recorded_of_side, recorded_does, IsAmong, KeepsRecordedTime, Linearization}
 use Rattle.queue_calls.proofs.OneSide.{AreCalls, mark_before, no_calls, pick_by, pick_of, picked, step_of, where_of}
 

@@ -1,8 +1,7 @@
 -- The points to which a history can lead, and how one more event changes them.
 use Rattle.std.proofs.Common.{◌≡◌, false, List, [], ◌∷◌, ◌++◌, length, refl, sym, ap, subst, arith, length-append, append_assoc}
 use Rattle.std.proofs.lemmas.List.{append-nil}
-use Rattle.queue_calls.specs.Queue.{Capacity, Operation, queue}
-use Rattle.queue_calls.specs.Calls.{Event, Mark, Happens, Effect, Idle, Resting, Point, point, Leads, LeadTo, events_among, CanLeadTo, IsLinearizable}
+use Rattle.queue_calls.proofs.Common.{Capacity, Operation, queue, Event, Mark, Happens, Effect, Idle, Resting, Point, point, Leads, LeadTo, events_among, CanLeadTo, IsLinearizable}
 
 -- the point before any event
 pub start : (capacity : Capacity) → CanLeadTo capacity [] (point (queue [] false) Idle Resting)

@@ -1,21 +1,12 @@
 -- The lines of a text are one list of lines.
 use Rattle.std.proofs.Common.{◌≡◌, ◌≢◌, Bool, true, false, ℕ, List, [], ◌∷◌, ◌++◌, length, drop, refl, ap, ap₂, sym, subst, ◌∙◌, append_assoc, length-append, arith}
-use Rattle.std.specs.Prelude.{All}
+use Rattle.queue_calls.proofs.Common.{All, All-cons, All-head, All-nil, All-tail, line_text, IsLine, Line, line, first_word, text_of, lines_text, IsOfFormat, IsFurther, AreLines, capacity_told}
+use Rattle.queue_calls.proofs.Common.{events_told, IsRecording, IsBadLine, HasRead, HeardLines, Event, Capacity, Offered, Taken, Word, Hearing}
 use Rattle.std.proofs.lemmas.List.{append-nil}
-use Rattle.std.proofs.lemmas.List.Elements.{All-cons, All-head, All-nil, All-tail}
-use Rattle.call_lines.specs.Lines.{line_text, IsLine}
-use Rattle.queue_calls.specs.Recordings.{Line, line, first_word, text_of, lines_text, IsOfFormat, IsFurther, AreLines, capacity_told, events_told, IsRecording, IsBadLine}
 use Rattle.line_parts.specs.LineEnds.{HasNoFeed}
-use Rattle.queue_calls.specs.RecordingStates.{HasRead, HeardLines}
 use Rattle.queue_calls.specs.RecordingLaws.{RecordingIsOne, RecordingHasNoBadLine}
-use Rattle.queue_calls.specs.Calls.{Event}
-use Rattle.queue_calls.specs.Queue.{Capacity}
-use Rattle.call_causes.specs.declared.entries.Offered.{Offered}
-use Rattle.call_causes.specs.declared.entries.Taken.{Taken}
-use Rattle.call_lines.specs.declared.lines.Word.{Word}
 use Rattle.call_lines.specs.declared.lines.Word.TheVariants as word
 use Rattle.queue_calls.specs.declared.hearings.Begun.TheVariants.{Nothing}
-use Rattle.queue_calls.specs.declared.hearings.Hearing.{Hearing}
 use Rattle.queue_calls.specs.declared.recordings.RecordingIn.{RecordingIn}
 use Rattle.call_lines.proofs.LineLemmas.{line_same, line_no_feed}
 use Rattle.line_parts.proofs.LineFeeds.{feed_nowhere, feed_once}

@@ -2,10 +2,7 @@
 use Rattle.std.proofs.Common.{◌≡◌, ◌≢◌, Bool, Option, Some, None, ℕ, ◌+◌, ◌-◌, ◌^◌, ◌≤◌, List, [], ◌∷◌, ◌++◌, length, refl, ap, sym, subst, ◌∙◌, append_assoc, length-append, arith}
 use Rattle.std.proofs.lemmas.Grind.{flat_map-append}
 use Rattle.std.proofs.lemmas.List.{append-nil}
-use Rattle.std.proofs.lemmas.List.Elements.{All-append, All-nil}
-use Rattle.call_lines.specs.Lines.{line_text}
-use Rattle.queue_calls.specs.Queue.{Capacity}
-use Rattle.queue_calls.specs.Calls.{Event}
+use Rattle.queue_calls.proofs.Common.{All-append, All-nil, line_text, Capacity, Event, Offered, Taken, Hearing}
 use Rattle.queue_calls.specs.Recordings.{Line, text_of, lines_text, AreLines, capacity_told, events_told, IsBadLine, RefusesText, IsFoundWithin, IsFindingOf, IsFindingWithin, IsFaultOf}
 use Rattle.line_parts.specs.LineEnds.{HasNoFeed}
 use Rattle.queue_calls.specs.RecordingStates.{HasLines, HasRead, HeardLines, HasHeard, IsFaultSoFar, RefusesLine}
@@ -13,9 +10,6 @@ use Rattle.call_causes.specs.declared.entries.TheConstants.{TAKEN_LIMIT}
 use Rattle.queue_calls.specs.declared.hearings.Begun.TheVariants.{Nothing}
 use Rattle.queue_calls.specs.declared.recordings.CallsFinding.{CallsFinding}
 use Rattle.queue_calls.specs.declared.recordings.CallsFinding.TheVariants.{Lawful, OutOfTurn, NotLinearizable}
-use Rattle.call_causes.specs.declared.entries.Offered.{Offered}
-use Rattle.call_causes.specs.declared.entries.Taken.{Taken}
-use Rattle.queue_calls.specs.declared.hearings.Hearing.{Hearing}
 use Rattle.queue_calls.specs.declared.recordings.Lines.{Lines}
 use Rattle.queue_calls.specs.declared.recordings.RecordingIn.{RecordingIn}
 use Rattle.queue_calls.specs.declared.faults.RecordingFault.{RecordingFault}

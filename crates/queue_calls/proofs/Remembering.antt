@@ -1,18 +1,7 @@
 -- What is counted in a history agrees with its past, and represents it.
 use Rattle.std.proofs.Common.{◌≡◌, inl, inr, ℕ, true, false, Some, List, [], ◌∷◌, ◌++◌, reverse, refl, sym, subst, append_assoc, append-nil}
-use Rattle.std.specs.Prelude.{unwrap_or}
-use Rattle.queue_calls.specs.Queue.{Capacity}
-use Rattle.queue_calls.specs.Calls.{Event, IsLinearizable}
-use Rattle.queue_calls.specs.Counting.{Kept, kept, Counts, CountTo}
-use Rattle.queue_calls.specs.InTurn.{APut, CallsAreInTurn, MovesSides, NoCall, Sides, sides}
-use Rattle.queue_calls.specs.Reasons.{ended_line, has_ended, has_told, items_of}
-use Rattle.queue_calls.specs.State.{IsProper, call_of_put, sides_of}
-use Rattle.queue_calls.specs.Witnesses.{Remembers}
-use Rattle.call_causes.specs.declared.entries.Offered.{Offered}
-use Rattle.call_causes.specs.declared.entries.Taken.{Taken}
-use Rattle.queue_calls.specs.declared.turns.PutTurn.TheVariants.{Free, Late, Offers}
-use Rattle.queue_calls.specs.declared.turns.TakeTurn.TheVariants.{Rests}
-use Rattle.queue_calls.specs.declared.witnesses.Witness.{Witness}
+use Rattle.queue_calls.proofs.Common.{unwrap_or, Capacity, Event, IsLinearizable, Kept, kept, Counts, CountTo, APut, CallsAreInTurn, MovesSides, NoCall, Sides, sides, ended_line, has_ended, has_told}
+use Rattle.queue_calls.proofs.Common.{items_of, IsProper, call_of_put, sides_of, Remembers, Offered, Taken, Free, Late, Offers, Rests, Witness}
 use Rattle.queue_calls.proofs.Agrees.{Agrees}
 use Rattle.queue_calls.proofs.Agreeing.{at_first, step, turned_behind}
 use Rattle.queue_calls.proofs.CauseFound.{put_of, standing}

@@ -1,10 +1,7 @@
 -- Replies: what is passed is within what was offered or asked for, and what each of them is.
 use Rattle.std.proofs.Common.{◌≡◌, ◌⊎◌, inl, inr, ℕ, suc, ◌-◌, ◌<◌, ◌≤◌, Bool, true, false, if◌then◌else◌, Some, None, List, ◌∷◌, length, ap, subst, arith}
-use Rattle.queue_calls.specs.Queue.{Capacity, LacksRoom}
+use Rattle.queue_calls.proofs.Common.{Capacity, LacksRoom, FoundFewer, MayLack, before_stored, has_told, line_behind, told_closed_line}
 use Rattle.queue_calls.specs.Calls.{Event, PutEnd, TakeEnd, Reply, Nothing, Shut, passed, is_shut, CanReply, short_of, lacked_by}
-use Rattle.queue_calls.specs.Counting.{FoundFewer}
-use Rattle.queue_calls.specs.State.{MayLack}
-use Rattle.queue_calls.specs.Reasons.{before_stored, has_told, line_behind, told_closed_line}
 
 pub shut_is : {A : Type 0} (reply : Reply A) → is_shut reply ≡ true → reply ≡ Shut
 shut_is x e = grind arith

@@ -1,12 +1,7 @@
 -- The states of a side with a call under way, and the points after an event.
 use Rattle.std.proofs.Common.{◌≡◌, ℕ, Bool, true, false, List, refl, subst}
-use Rattle.queue_calls.specs.Queue.{Capacity, Queue}
-use Rattle.queue_calls.specs.Calls.{Producer, Idle, Putting, FoundShut, Closing, Consumer, Resting, Taking, FoundClosed, Point, point}
-use Rattle.queue_calls.specs.declared.turns.PutTurn.{PutTurn}
-use Rattle.queue_calls.specs.declared.turns.PutTurn.TheVariants.{Free, Closes}
-use Rattle.queue_calls.specs.declared.turns.TakeTurn.{TakeTurn}
-use Rattle.queue_calls.specs.declared.turns.TakeTurn.TheVariants.{Rests}
-use Rattle.queue_calls.specs.State.{FitsPut, FitsTake, Describes}
+use Rattle.queue_calls.proofs.Common.{Capacity, Queue, Producer, Idle, Putting, FoundShut, Closing, Consumer, Resting, Taking, FoundClosed, Point, point, PutTurn, Free, Closes, TakeTurn, Rests}
+use Rattle.queue_calls.proofs.Common.{FitsPut, FitsTake, Describes}
 
 pub free_idle : (capacity : Capacity) (shut closed : Bool) (p : Producer) → FitsPut capacity Free shut p closed → (p ≡ Idle) × (closed ≡ shut)
 free_idle capacity shut closed Idle f = (refl, f)

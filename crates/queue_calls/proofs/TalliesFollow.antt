@@ -1,13 +1,8 @@
 -- What the report needs to know about an event, from what is counted in a history.
 use Rattle.std.proofs.Common.{◌≡◌, false, List, [], ◌∷◌, ◌++◌, reverse, refl, sym, ap, subst, ◌∙◌, append-nil, arith}
-use Rattle.queue_calls.specs.Queue.{Capacity}
-use Rattle.queue_calls.specs.Calls.{Event}
-use Rattle.queue_calls.specs.Counting.{Kept, kept, Counts, CountTo}
+use Rattle.queue_calls.proofs.Common.{Capacity, Event, Kept, kept, Counts, CountTo, IsProper, offered_by, Free, Rests}
 use Rattle.queue_calls.specs.Reporting.{put_is_open, take_is_open}
-use Rattle.queue_calls.specs.State.{IsProper, offered_by}
 use Rattle.queue_calls.specs.Tallying.{has_put, has_take, StoresWithin, IsToldOf}
-use Rattle.queue_calls.specs.declared.turns.PutTurn.TheVariants.{Free}
-use Rattle.queue_calls.specs.declared.turns.TakeTurn.TheVariants.{Rests}
 use Rattle.queue_calls.proofs.Agrees.{Agrees}
 use Rattle.queue_calls.proofs.Agreeing.{offered_is, turned, turned_behind}
 use Rattle.queue_calls.proofs.Remembering.{agrees}

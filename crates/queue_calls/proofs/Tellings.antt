@@ -1,12 +1,7 @@
 -- The lines of a well-formed history are a recording of it.
 use Rattle.std.proofs.Common.{◌≡◌, ℕ, ◌^◌, ◌<◌, Bool, nat_lt, Some, List, [], ◌∷◌, length, refl, ap, sym, ◌∙◌, arith}
-use Rattle.std.specs.Prelude.{All}
-use Rattle.std.proofs.lemmas.Bool.{ltb-true, ltb-false}
-use Rattle.std.proofs.lemmas.List.Elements.{All-cons, All-nil}
-use Rattle.queue_calls.specs.Calls.{Event}
-use Rattle.queue_calls.specs.InTurn.{UnderWay, NoCall, APut, AClose, ATake, Sides, sides, MovesSides, Turns}
-use Rattle.call_lines.specs.Lines.{Allows, AreSmall}
-use Rattle.queue_calls.specs.Recordings.{first_word, Line, IsOfFormat, IsFurther, event_told, begun_after, and_then, events_told}
+use Rattle.queue_calls.proofs.Common.{All, ltb-true, ltb-false, All-cons, All-nil, Event, UnderWay, NoCall, APut, AClose, ATake, Sides, sides, MovesSides, Turns, Allows, AreSmall, first_word, Line}
+use Rattle.queue_calls.proofs.Common.{IsOfFormat, IsFurther, event_told, begun_after, and_then, events_told}
 use Rattle.queue_calls.specs.Tellings.{line_of, lines_of, numbers_in, TellsSmall, HistoryHasARecording}
 use Rattle.queue_calls.specs.declared.hearings.Begun.{Begun}
 use Rattle.queue_calls.specs.declared.hearings.Begun.TheVariants as begun

@@ -1,8 +1,8 @@
 -- Well-formed histories: one more event, and the calls that are under way after a history.
 use Rattle.std.proofs.Common.{◌≡◌, ◌+◌, Bool, true, false, List, [], ◌∷◌, ◌++◌, length, refl, sym, subst, ◌∙◌, arith, length-append}
-use Rattle.queue_calls.specs.Queue.{Capacity, Operation}
-use Rattle.queue_calls.specs.Calls.{Event, PutBegin, PutEnd, CloseBegin, CloseEnd, TakeBegin, TakeEnd, Mark, Happens, Effect, Producer, Idle, Putting, FoundShut, Closing, Consumer, Resting, Taking, FoundClosed, ProducerStep, ConsumerStep, Point, LeadTo, events_among, IsLinearizable}
-use Rattle.queue_calls.specs.InTurn.{UnderWay, NoCall, APut, AClose, ATake, Sides, sides, MovesSides, Turns, CallsAreInTurn}
+use Rattle.queue_calls.proofs.Common.{Capacity, Operation, Event, PutBegin, PutEnd, CloseBegin, CloseEnd, TakeBegin, TakeEnd, Mark, Happens, Effect, Producer, Idle, Putting, FoundShut, Closing}
+use Rattle.queue_calls.proofs.Common.{Consumer, Resting, Taking, FoundClosed, ProducerStep, ConsumerStep, Point, LeadTo, events_among, IsLinearizable, UnderWay, NoCall, APut, AClose, ATake, Sides}
+use Rattle.queue_calls.proofs.Common.{sides, MovesSides, Turns, CallsAreInTurn}
 use Rattle.queue_calls.proofs.Replies.{shut_within}
 
 pub one_turn_more : (h : List Event) (e : Event) (s t u : Sides) → Turns s h t → MovesSides t e u → Turns s (h ++ e ∷ []) u

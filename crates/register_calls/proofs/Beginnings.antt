@@ -1,11 +1,7 @@
 -- A history and a prefix of it; and the read that a reader has under way.
 use Rattle.std.proofs.Common.{◌≡◌, inl, inr, ℕ, suc, ◌≤◌, ◌<◌, true, false, Some, List, [], ◌∷◌, length, refl, ap, sym, subst, ◌∙◌, arith}
-use Rattle.std.proofs.lemmas.Bool.{cases_lt}
-use Rattle.std.proofs.lemmas.Bool.Decides.{eqb_tells}
-use Rattle.register_calls.specs.declared.events.Register.{Register}
-use Rattle.register_calls.specs.declared.events.RegisterEvent.{RegisterEvent}
-use Rattle.register_calls.specs.declared.events.RegisterEvent.TheVariants.{WriteBegins, WriteEnds, ReadBegins, ReadEnds}
-use Rattle.register_calls.specs.Histories.{started, finished, has_read_open, before_read, IsBeginning, IsWellFormed}
+use Rattle.register_calls.proofs.Common.{cases_lt, eqb_tells, Register, RegisterEvent, WriteBegins, WriteEnds, ReadBegins, ReadEnds, started, finished, has_read_open, before_read, IsBeginning}
+use Rattle.register_calls.proofs.Common.{IsWellFormed}
 use Rattle.register_calls.specs.Intervals.{placed_event, IsWriteFrom, WriteHasEnded, IsOfReader, IsReadFrom}
 use Rattle.register_calls.proofs.ReadLemmas.{before_read-begin, before_read-other, read_open-begin_other, read_open-end, read_open-end_other}
 use Rattle.register_calls.proofs.Places.{placed_event-here, placed_event-before, placed_event-within, code, code-less, stands, code-one, numbered}

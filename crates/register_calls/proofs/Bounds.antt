@@ -2,19 +2,11 @@
 use Rattle.std.proofs.Common.{◌≡◌, ◌≢◌, ◌⊎◌, inl, inr, ℕ, zero, suc, ◌-◌, ◌≤◌, ◌<◌, Bool, true, false, Option, Some, None, List, [], ◌∷◌, ◌++◌, length, drop, take, refl, sym, subst, ◌∙◌, arith, get_or-drop, take_at, length-append}
 use Rattle.std.specs.Prelude.{slice_get, slice_index_or, nat_lt}
 use Rattle.std.proofs.lemmas.Bool.{cases_lt, lt-ltb, le-ltb}
-use Rattle.std.proofs.lemmas.Bool.Decides.{eqb_tells}
+use Rattle.register_calls.proofs.Common.{eqb_tells, none-some, same_Some, slice_get_within, slice_get-get_or, RegisterEvent, WriteBegins, WriteEnds, ReadBegins, ReadEnds, Chain, EarlierRead, started}
+use Rattle.register_calls.proofs.Common.{finished, written_values, before_read, Scope, sees, IsLeast, IsFirstPlace, IsGreater, IsRaised, ShowsReads, fresh_chain, leaning_chain, begin_places, link_of}
+use Rattle.register_calls.proofs.Common.{IsRaisedChain, KeepsBounds}
 use Rattle.std.proofs.lemmas.List.{drop-append-le}
-use Rattle.std.proofs.lemmas.Option.{none-some, same_Some, slice_get_within, slice_get-get_or}
-use Rattle.register_calls.specs.declared.events.RegisterEvent.{RegisterEvent}
-use Rattle.register_calls.specs.declared.events.RegisterEvent.TheVariants.{WriteBegins, WriteEnds, ReadBegins, ReadEnds}
-use Rattle.register_calls.specs.declared.chains.Chain.{Chain}
-use Rattle.register_calls.specs.declared.reasons.EarlierRead.{EarlierRead}
-use Rattle.register_calls.specs.Histories.{started, finished, written_values, before_read}
-use Rattle.register_calls.specs.Classes.{Scope, sees}
-use Rattle.register_calls.specs.Judging.{IsLeast, IsFirstPlace, IsGreater, IsRaised}
-use Rattle.register_calls.specs.Chains.{ShowsReads, fresh_chain, leaning_chain}
 use Rattle.register_calls.specs.Reasons.{BeginsAt, IsBound}
-use Rattle.register_calls.specs.Witnesses.{begin_places, link_of, IsRaisedChain, KeepsBounds}
 use Rattle.register_calls.proofs.ReadLemmas.{chosen, left, before_read-begin, before_read-other, length-written}
 use Rattle.register_calls.proofs.Keeping.{KeepsOthers}
 use Rattle.register_calls.proofs.Sets.{get_left, get_end, drop_twice}

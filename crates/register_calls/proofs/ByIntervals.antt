@@ -1,13 +1,7 @@
 -- Which writes a read may be of: by their numbers and by intervals these are the same.
 use Rattle.std.proofs.Common.{◌≡◌, inl, inr, ℕ, zero, suc, ◌≤◌, Some, List, [], ◌∷◌, length, refl, ap, sym, subst, ◌∙◌, arith}
 use Rattle.std.specs.Prelude.{slice_get}
-use Rattle.std.proofs.lemmas.Bool.{cases_lt}
-use Rattle.std.proofs.lemmas.Option.{same_Some}
-use Rattle.register_calls.specs.declared.events.Register.{Register}
-use Rattle.register_calls.specs.declared.events.RegisterEvent.{RegisterEvent}
-use Rattle.register_calls.specs.declared.events.RegisterEvent.TheVariants.{WriteBegins}
-use Rattle.register_calls.specs.Histories.{started, finished, written_values, IsWellFormed, IsBeginning}
-use Rattle.register_calls.specs.Classes.{IsOf}
+use Rattle.register_calls.proofs.Common.{cases_lt, same_Some, Register, RegisterEvent, WriteBegins, started, finished, written_values, IsWellFormed, IsBeginning, IsOf}
 use Rattle.register_calls.specs.Intervals.{IsWriteFrom, WriteHasEnded, WriteOverlaps, MayBeOf}
 use Rattle.register_calls.proofs.Sets.{get_left}
 use Rattle.register_calls.proofs.ReadLemmas.{length-written}

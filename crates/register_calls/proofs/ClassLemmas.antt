@@ -1,12 +1,8 @@
 -- The classes of a history: each is in the weaker ones, and each prefix has them.
 use Rattle.std.proofs.Common.{◌≡◌, ℕ, Some, List, [], ◌∷◌, length, refl, arith}
 use Rattle.std.specs.Prelude.{slice_get}
-use Rattle.register_calls.specs.declared.events.Register.{Register}
-use Rattle.register_calls.specs.declared.events.RegisterEvent.{RegisterEvent}
-use Rattle.register_calls.specs.declared.events.RegisterEvent.TheVariants.{WriteBegins, WriteEnds, ReadBegins, ReadEnds}
-use Rattle.register_calls.specs.declared.events.Class.TheVariants.{Safe, Regular, AtomicByReader, Atomic}
-use Rattle.register_calls.specs.Histories.{IsValue, started, finished, written_values, before_read, IsWellFormed}
-use Rattle.register_calls.specs.Classes.{IsOf, IsSafe, IsRegular, Scope, Together, EachAlone, Choice, NoneIsLater, Orders, HasOrder}
+use Rattle.register_calls.proofs.Common.{Register, RegisterEvent, WriteBegins, WriteEnds, ReadBegins, ReadEnds, Safe, Regular, AtomicByReader, Atomic, IsValue, started, finished, written_values}
+use Rattle.register_calls.proofs.Common.{before_read, IsWellFormed, IsOf, IsSafe, IsRegular, Scope, Together, EachAlone, Choice, NoneIsLater, Orders, HasOrder}
 use Rattle.register_calls.specs.Findings.{BeginningHasClass, StrongerHasWeaker}
 use Rattle.register_calls.proofs.Sets.{get_more}
 

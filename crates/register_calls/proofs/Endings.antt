@@ -1,10 +1,6 @@
 -- Which writes have ended, by the places where they end and by their number.
 use Rattle.std.proofs.Common.{◌≡◌, ◌≢◌, ℕ, suc, ◌≤◌, ◌<◌, List, [], ◌∷◌, length, sym, ◌∙◌, arith}
-use Rattle.register_calls.specs.declared.events.Register.{Register}
-use Rattle.register_calls.specs.declared.events.RegisterEvent.{RegisterEvent}
-use Rattle.register_calls.specs.declared.events.RegisterEvent.TheVariants.{WriteBegins, WriteEnds, ReadBegins, ReadEnds}
-use Rattle.register_calls.specs.Histories.{started, finished, IsWellFormed}
-use Rattle.register_calls.specs.Intervals.{WriteHasEnded}
+use Rattle.register_calls.proofs.Common.{Register, RegisterEvent, WriteBegins, WriteEnds, ReadBegins, ReadEnds, started, finished, IsWellFormed, WriteHasEnded}
 use Rattle.register_calls.proofs.Places.{placed_event-here, placed_event-before, code, stands, code-less}
 
 -- the number of ended writes is at most that of the writes begun

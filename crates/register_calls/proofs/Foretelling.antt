@@ -1,19 +1,9 @@
 -- The classes of a history with the end of one more read, by what the read may be of; and what a refusal implies.
 use Rattle.std.proofs.Common.{◌≡◌, ◌↔◌, ◌⊎◌, inl, inr, ℕ, ◌<◌, Bool, true, Option, Some, None, List, ◌∷◌, set, refl, sym, ◌∙◌, arith}
 use Rattle.std.specs.Prelude.{IsTrue, if◌then◌else◌}
-use Rattle.std.proofs.lemmas.Bool.{cases_lt}
-use Rattle.register_calls.specs.declared.events.Register.{Register}
-use Rattle.register_calls.specs.declared.events.RegisterEvent.{RegisterEvent}
-use Rattle.register_calls.specs.declared.events.RegisterEvent.TheVariants.{ReadEnds}
-use Rattle.register_calls.specs.declared.events.Class.{Class}
-use Rattle.register_calls.specs.declared.events.Class.TheVariants.{Safe, Regular, AtomicByReader, Atomic}
+use Rattle.register_calls.proofs.Common.{cases_lt, Register, RegisterEvent, ReadEnds, Class, Safe, Regular, AtomicByReader, Atomic, OpenRead, ReaderState, FoundWrites, IsValue, has_read_open}
+use Rattle.register_calls.proofs.Common.{HasClass, IsRaised, still}
 use Rattle.register_calls.specs.declared.faults.RegisterFault.{RegisterFault}
-use Rattle.register_calls.specs.declared.auditors.OpenRead.{OpenRead}
-use Rattle.register_calls.specs.declared.auditors.ReaderState.{ReaderState}
-use Rattle.register_calls.specs.declared.auditors.FoundWrites.{FoundWrites}
-use Rattle.register_calls.specs.Histories.{IsValue, has_read_open}
-use Rattle.register_calls.specs.Classes.{HasClass}
-use Rattle.register_calls.specs.Judging.{IsRaised, still}
 use Rattle.register_calls.specs.Audits.{FindsWrites, KeepsHistory, KeepsRead, RefusesRegisterEvent, RefusesRemembered, reader_at}
 use Rattle.register_calls.proofs.Readers.{moves_set, open_within}
 use Rattle.register_calls.proofs.Hearing.{read_ends_as}

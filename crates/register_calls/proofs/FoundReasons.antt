@@ -1,23 +1,9 @@
 -- What contradicts a read that ends now, by what a witness keeps.
 use Rattle.std.proofs.Common.{◌≡◌, inl, ℕ, ◌-◌, ◌≤◌, Bool, Option, Some, None, List, [], ◌∷◌, length, drop, refl, ap, sym, subst, arith, get_or-drop}
-use Rattle.std.specs.Prelude.{slice_index_or, option_map}
-use Rattle.std.proofs.lemmas.Option.{slice_get_within, slice_get-get_or}
-use Rattle.register_calls.specs.declared.events.Register.{Register}
-use Rattle.register_calls.specs.declared.events.RegisterEvent.{RegisterEvent}
-use Rattle.register_calls.specs.declared.events.RegisterEvent.TheVariants.{WriteBegins, WriteEnds, ReadBegins, ReadEnds}
-use Rattle.register_calls.specs.declared.events.Class.{Class}
-use Rattle.register_calls.specs.declared.events.Class.TheVariants.{Safe, Regular, AtomicByReader, Atomic}
-use Rattle.register_calls.specs.declared.auditors.OpenRead.{OpenRead}
-use Rattle.register_calls.specs.declared.auditors.ReaderState.{ReaderState}
-use Rattle.register_calls.specs.declared.auditors.FoundWrites.{FoundWrites}
-use Rattle.register_calls.specs.declared.chains.Chain.{Chain}
-use Rattle.register_calls.specs.declared.reasons.EarlierRead.{EarlierRead}
+use Rattle.register_calls.proofs.Common.{slice_index_or, option_map, slice_get_within, slice_get-get_or, Register, RegisterEvent, WriteBegins, WriteEnds, ReadBegins, ReadEnds, Class, Safe, Regular}
+use Rattle.register_calls.proofs.Common.{AtomicByReader, Atomic, OpenRead, ReaderState, FoundWrites, Chain, EarlierRead, IsValue, IsWellFormed, started, finished, written_values, before_read, Scope}
+use Rattle.register_calls.proofs.Common.{Together, EachAlone, IsOf, HasOrder, HasClass, IsLeast, IsFirstPlace, KeepsOrder, KeepsScope, lows, own_floors, own_lows, reader_at, ShowsReads, chain_at}
 use Rattle.register_calls.specs.declared.reasons.MissReason.TheVariants.{Held, NotWritten, Inverted}
-use Rattle.register_calls.specs.Histories.{IsValue, IsWellFormed, started, finished, written_values, before_read}
-use Rattle.register_calls.specs.Classes.{Scope, Together, EachAlone, IsOf, HasOrder, HasClass}
-use Rattle.register_calls.specs.Judging.{IsLeast, IsFirstPlace}
-use Rattle.register_calls.specs.Audits.{KeepsOrder, KeepsScope, lows, own_floors, own_lows, reader_at}
-use Rattle.register_calls.specs.Chains.{ShowsReads, chain_at}
 use Rattle.register_calls.specs.Reasons.{IsHeldFrom, IsInverted, IsMissReason}
 use Rattle.register_calls.specs.Witnesses.{last_end, low_chain}
 use Rattle.register_calls.proofs.ReadLemmas.{finished-before_read, length-written}

@@ -1,13 +1,7 @@
 -- From an order of operations to a choice of writes: each read is of the last write before it.
 use Rattle.std.proofs.Common.{rules, ◌≡◌, ◌≢◌, ◌⊎◌, inl, inr, ℕ, zero, suc, ◌≤◌, ◌<◌, Some, List, [], ◌∷◌, length, refl, ap, sym, subst, arith}
 use Rattle.std.specs.Prelude.{◌==◌, if◌then◌else◌}
-use Rattle.std.proofs.lemmas.Bool.{cases_lt}
-use Rattle.register_calls.specs.declared.events.Register.{Register}
-use Rattle.register_calls.specs.declared.events.RegisterEvent.{RegisterEvent}
-use Rattle.register_calls.specs.declared.events.RegisterEvent.TheVariants.{WriteBegins, ReadEnds}
-use Rattle.register_calls.specs.Histories.{IsWellFormed}
-use Rattle.register_calls.specs.Classes.{Together}
-use Rattle.register_calls.specs.Intervals.{placed_event, IsReadFrom, IsWriteFrom, WriteHasEnded, MayBeOf, HasChoice}
+use Rattle.register_calls.proofs.Common.{cases_lt, Register, RegisterEvent, WriteBegins, ReadEnds, IsWellFormed, Together, placed_event, IsReadFrom, IsWriteFrom, WriteHasEnded, MayBeOf, HasChoice}
 use Rattle.register_calls.specs.Linearizations.{RegisterOperation, AWrite, ARead, IsOperationOf, HasEndedBy, IsOrdered, AreLegal, KeepsRealTime, RegisterLinearization, AtomicIsLinearizable}
 use Rattle.register_calls.proofs.Places.{placed_event-within}
 use Rattle.register_calls.proofs.OrderByIntervals.{order_is}

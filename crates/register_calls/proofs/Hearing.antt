@@ -2,17 +2,9 @@
 use Rattle.std.proofs.Common.{◌≡◌, ◌⊎◌, ◌↔◌, inl, inr, ℕ, suc, ◌+◌, ◌-◌, ◌≤◌, ◌<◌, Bool, true, false, Option, Some, None, List, [], ◌∷◌, ◌++◌, length, drop, refl, ap, sym, subst, ◌∙◌, arith}
 use Rattle.std.specs.Prelude.{slice_get, option_map, if◌then◌else◌}
 use Rattle.std.proofs.lemmas.List.{drop-append-le}
-use Rattle.std.proofs.lemmas.Bool.Decides.{eqb_tells}
-use Rattle.std.proofs.lemmas.Option.{none-some, same_Some, slice_get_within}
-use Rattle.register_calls.specs.declared.events.Register.{Register}
-use Rattle.register_calls.specs.declared.events.RegisterEvent.{RegisterEvent}
-use Rattle.register_calls.specs.declared.events.RegisterEvent.TheVariants.{WriteBegins, WriteEnds, ReadBegins, ReadEnds}
-use Rattle.register_calls.specs.declared.auditors.OpenRead.{OpenRead}
-use Rattle.register_calls.specs.declared.auditors.ReaderState.{ReaderState}
-use Rattle.register_calls.specs.declared.auditors.FoundWrites.{FoundWrites}
-use Rattle.register_calls.specs.Histories.{IsValue, started, finished, written_values, has_read_open, before_read}
-use Rattle.register_calls.specs.Classes.{IsOf, IsSafe, IsRegular, sees, Together, EachAlone}
-use Rattle.register_calls.specs.Judging.{IsFirstPlace, IsGreater, IsRaised, still}
+use Rattle.register_calls.proofs.Common.{eqb_tells, none-some, same_Some, slice_get_within, Register, RegisterEvent, WriteBegins, WriteEnds, ReadBegins, ReadEnds, OpenRead, ReaderState, FoundWrites}
+use Rattle.register_calls.proofs.Common.{IsValue, started, finished, written_values, has_read_open, before_read, IsOf, IsSafe, IsRegular, sees, Together, EachAlone, IsFirstPlace, IsGreater, IsRaised}
+use Rattle.register_calls.proofs.Common.{still}
 use Rattle.register_calls.specs.Audits.{MovesReader, FindsWrites, reader_at, KeepsRead, KeepsHistory, IsToldBy, IsOldest, IsOldestKept, lows, own_lows, own_floors}
 use Rattle.register_calls.proofs.ReadLemmas.{before_read-begin, before_read-other, read_open-begin, read_open-begin_other, read_open-end, read_open-end_other, length-written, finished-before_read}
 use Rattle.register_calls.proofs.Keeping.{keeps_nothing, scope_write, scope_read, scope_got, scope_same}

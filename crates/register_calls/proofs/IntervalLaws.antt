@@ -1,11 +1,6 @@
 -- A well-formed history is safe, or regular, exactly when it is so by intervals.
 use Rattle.std.proofs.Common.{◌≢◌, inl, inr, ℕ, ◌≤◌, ◌<◌, List, [], ◌∷◌, length, arith}
-use Rattle.std.proofs.lemmas.Option.{none-some}
-use Rattle.register_calls.specs.declared.events.Register.{Register}
-use Rattle.register_calls.specs.declared.events.RegisterEvent.{RegisterEvent}
-use Rattle.register_calls.specs.declared.events.RegisterEvent.TheVariants.{WriteBegins, WriteEnds, ReadBegins, ReadEnds}
-use Rattle.register_calls.specs.Histories.{IsValue, started, before_read, IsWellFormed}
-use Rattle.register_calls.specs.Classes.{IsSafe, IsRegular}
+use Rattle.register_calls.proofs.Common.{none-some, Register, RegisterEvent, WriteBegins, WriteEnds, ReadBegins, ReadEnds, IsValue, started, before_read, IsWellFormed, IsSafe, IsRegular}
 use Rattle.register_calls.specs.Intervals.{IsReadFrom, MayBeOf, IsSafeByIntervals, IsRegularByIntervals, SafeIsByIntervals, RegularIsByIntervals}
 use Rattle.register_calls.proofs.Places.{placed_event-within, placed_event-cases, code}
 use Rattle.register_calls.proofs.Beginnings.{before_read-beginning, length-beginning, reading_began, read_there, read_still, read_before, last_read, of_last}

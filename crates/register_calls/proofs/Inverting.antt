@@ -1,12 +1,8 @@
 -- A regular history is atomic, if no read in it began while a write was under way whose value had been returned since it began.
 use Rattle.std.proofs.Common.{◌≡◌, ◌⊎◌, inl, inr, ℕ, suc, ◌≤◌, Bool, true, false, Option, Some, List, [], ◌∷◌, length, refl, ap, sym, subst, ◌∙◌, arith}
 use Rattle.std.specs.Prelude.{◌==◌, ◌||◌, if◌then◌else◌, slice_get}
-use Rattle.std.proofs.lemmas.Bool.{cases_lt, eq-eqb}
-use Rattle.register_calls.specs.declared.events.Register.{Register}
-use Rattle.register_calls.specs.declared.events.RegisterEvent.{RegisterEvent}
-use Rattle.register_calls.specs.declared.events.RegisterEvent.TheVariants.{WriteBegins, WriteEnds, ReadBegins, ReadEnds}
-use Rattle.register_calls.specs.Histories.{IsWellFormed, started, finished, written_values, before_read}
-use Rattle.register_calls.specs.Classes.{Together, Choice, NoneIsLater, Orders}
+use Rattle.register_calls.proofs.Common.{cases_lt, eq-eqb, Register, RegisterEvent, WriteBegins, WriteEnds, ReadBegins, ReadEnds, IsWellFormed, started, finished, written_values, before_read}
+use Rattle.register_calls.proofs.Common.{Together, Choice, NoneIsLater, Orders}
 use Rattle.register_calls.specs.Reports.{NoneInvertsIsAtomic, could_invert, one_more_if, is_shown, is_value, being_written}
 use Rattle.register_calls.proofs.Sets.{get_end}
 use Rattle.register_calls.proofs.ReadLemmas.{length-written}

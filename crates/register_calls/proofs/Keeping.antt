@@ -1,14 +1,7 @@
 -- What an auditor keeps of the orders of a history, after one more event.
 use Rattle.std.proofs.Common.{◌≡◌, ◌≢◌, inl, inr, ℕ, ◌≤◌, Bool, true, false, Option, Some, None, List, [], ◌∷◌, length, refl, ap, sym, subst, ◌∙◌, arith}
-use Rattle.std.proofs.lemmas.Bool.{cases_lt}
-use Rattle.std.proofs.lemmas.Bool.Decides.{eqb_tells}
-use Rattle.std.proofs.lemmas.Option.{none-some, same_Some, slice_get_within}
-use Rattle.register_calls.specs.declared.events.RegisterEvent.{RegisterEvent}
-use Rattle.register_calls.specs.declared.events.RegisterEvent.TheVariants.{WriteBegins, ReadBegins, ReadEnds}
-use Rattle.register_calls.specs.Histories.{finished, written_values, before_read}
-use Rattle.register_calls.specs.Classes.{Scope, sees, IsOf, Choice, NoneIsLater, Orders, HasOrder}
-use Rattle.register_calls.specs.Judging.{HasNone, IsLeast, IsFirstPlace, IsGreater, IsRaised, still}
-use Rattle.register_calls.specs.Audits.{KeepsOrder, KeepsScope}
+use Rattle.register_calls.proofs.Common.{cases_lt, eqb_tells, none-some, same_Some, slice_get_within, RegisterEvent, WriteBegins, ReadBegins, ReadEnds, finished, written_values, before_read, Scope}
+use Rattle.register_calls.proofs.Common.{sees, IsOf, Choice, NoneIsLater, Orders, HasOrder, HasNone, IsLeast, IsFirstPlace, IsGreater, IsRaised, still, KeepsOrder, KeepsScope}
 use Rattle.register_calls.proofs.ReadLemmas.{before_read-begin, before_read-other, length-before_read, length-written}
 use Rattle.register_calls.proofs.OrderLemmas.{NoneIsLater-more, NoneIsLater-same, AreSame-less, changed, changed-here, changed-before, Orders-more}
 

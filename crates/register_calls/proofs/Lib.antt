@@ -1,3 +1,4 @@
+pub mod Common
 pub mod Sets
 pub mod ReadLemmas
 pub mod OrderLemmas

@@ -1,11 +1,7 @@
 -- Operations of a history by their places, and the values that a register holds between them.
 use Rattle.std.proofs.Common.{rules, ◌≡◌, ◌⊎◌, inl, inr, ℕ, zero, suc, ◌≤◌, ◌<◌, Some, List, [], ◌∷◌, length, sym, subst, ◌∙◌, arith}
-use Rattle.std.proofs.lemmas.Option.{none-some}
-use Rattle.register_calls.specs.declared.events.Register.{Register}
-use Rattle.register_calls.specs.declared.events.RegisterEvent.{RegisterEvent}
-use Rattle.register_calls.specs.declared.events.RegisterEvent.TheVariants.{WriteBegins, WriteEnds, ReadBegins, ReadEnds}
-use Rattle.register_calls.specs.Histories.{started, finished, ComesInTurn, IsWellFormed}
-use Rattle.register_calls.specs.Intervals.{placed_event, IsWriteFrom, WriteHasEnded, MayBeOf}
+use Rattle.register_calls.proofs.Common.{none-some, Register, RegisterEvent, WriteBegins, WriteEnds, ReadBegins, ReadEnds, started, finished, ComesInTurn, IsWellFormed, placed_event, IsWriteFrom}
+use Rattle.register_calls.proofs.Common.{WriteHasEnded, MayBeOf}
 use Rattle.register_calls.specs.Linearizations.{RegisterOperation, AWrite, ARead, IsOperationOf}
 use Rattle.register_calls.proofs.ByIntervals.{ends_more}
 use Rattle.register_calls.proofs.Places.{placed_event-here, placed_event-before, placed_event-within, placed_event-cases}

@@ -3,18 +3,11 @@ use Rattle.std.proofs.Common.{◌≡◌, ℕ, zero, suc, ◌+◌, ◌-◌, ◌�
 use Rattle.std.proofs.Math.Seq.{take-suc}
 use Rattle.std.proofs.Math.Numerals.{add-one}
 use Rattle.std.proofs.lemmas.List.{reverse-append, take_all}
-use Rattle.std.proofs.lemmas.Bool.{cases_lt}
-use Rattle.register_calls.specs.declared.events.Register.{Register}
-use Rattle.register_calls.specs.declared.events.RegisterEvent.{RegisterEvent}
-use Rattle.register_calls.specs.declared.events.RegisterEvent.TheVariants.{WriteEnds}
-use Rattle.register_calls.specs.declared.events.Class.{Class}
-use Rattle.register_calls.specs.declared.events.Class.TheVariants.{Safe, Regular, AtomicByReader, Atomic}
+use Rattle.register_calls.proofs.Common.{cases_lt, Register, RegisterEvent, WriteEnds, Class, Safe, Regular, AtomicByReader, Atomic, HasClass, RefusesRegisterEvent}
 use Rattle.register_calls.specs.declared.faults.RegisterFault.{RegisterFault}
 use Rattle.register_calls.specs.declared.faults.RegisterFault.TheVariants.{NoValue, OutOfTurn, TooMany, OutOfMemory}
 use Rattle.register_calls.specs.Histories.{IsWellFormed, ComesInTurn, WritesValue}
-use Rattle.register_calls.specs.Classes.{HasClass}
 use Rattle.register_calls.specs.Findings.{IsFirstMiss, OneFirstMiss, FaultSays}
-use Rattle.register_calls.specs.Audits.{RefusesRegisterEvent}
 use Rattle.register_calls.proofs.ClassLemmas.{beginning}
 
 -- one more event

@@ -1,13 +1,8 @@
 -- The reads of a well-formed history have an order, of all readers together or of each alone, exactly when they have one by intervals.
 use Rattle.std.proofs.Common.{rules, ◌≡◌, ◌≢◌, inl, inr, ℕ, zero, suc, ◌≤◌, ◌<◌, true, Some, List, [], ◌∷◌, length, ap, sym, subst, ◌∙◌, arith}
 use Rattle.std.specs.Prelude.{◌==◌, if◌then◌else◌}
-use Rattle.std.proofs.lemmas.Bool.{eq-eqb, ne_eqb, cases_lt}
-use Rattle.std.proofs.lemmas.Option.{none-some}
-use Rattle.register_calls.specs.declared.events.Register.{Register}
-use Rattle.register_calls.specs.declared.events.RegisterEvent.{RegisterEvent}
-use Rattle.register_calls.specs.declared.events.RegisterEvent.TheVariants.{WriteBegins, WriteEnds, ReadBegins, ReadEnds}
-use Rattle.register_calls.specs.Histories.{started, before_read, IsWellFormed, IsBeginning}
-use Rattle.register_calls.specs.Classes.{Scope, sees, IsOf, Choice, NoneIsLater, Orders, HasOrder}
+use Rattle.register_calls.proofs.Common.{eq-eqb, ne_eqb, cases_lt, none-some, Register, RegisterEvent, WriteBegins, WriteEnds, ReadBegins, ReadEnds, started, before_read, IsWellFormed, IsBeginning}
+use Rattle.register_calls.proofs.Common.{Scope, sees, IsOf, Choice, NoneIsLater, Orders, HasOrder}
 use Rattle.register_calls.specs.Intervals.{placed_event, IsReadFrom, MayBeOf, Chooses, HasChoice, OrderIsByIntervals}
 use Rattle.register_calls.proofs.ReadLemmas.{chosen, left}
 use Rattle.register_calls.proofs.Places.{placed_event-before, placed_event-cases, code, code-zero, code-last, code-less, code-later, code-le, code-within, numbered}

@@ -1,11 +1,7 @@
 -- Orders of the reads of a history after one more event, and lower bounds of their numbers.
 use Rattle.std.proofs.Common.{◌≡◌, ◌≢◌, ℕ, suc, ◌≤◌, ◌<◌, List, [], ◌∷◌, length, refl, sym, subst, arith}
 use Rattle.std.specs.Prelude.{◌==◌, if◌then◌else◌}
-use Rattle.std.proofs.lemmas.Bool.{eq-eqb, ne_eqb}
-use Rattle.register_calls.specs.declared.events.RegisterEvent.{RegisterEvent}
-use Rattle.register_calls.specs.declared.events.RegisterEvent.TheVariants.{WriteBegins, WriteEnds, ReadBegins, ReadEnds}
-use Rattle.register_calls.specs.Histories.{before_read}
-use Rattle.register_calls.specs.Classes.{Scope, IsOf, Choice, NoneIsLater, Orders}
+use Rattle.register_calls.proofs.Common.{eq-eqb, ne_eqb, RegisterEvent, WriteBegins, WriteEnds, ReadBegins, ReadEnds, before_read, Scope, IsOf, Choice, NoneIsLater, Orders}
 use Rattle.register_calls.proofs.ReadLemmas.{length-before_read}
 
 module _ (s : Scope) where

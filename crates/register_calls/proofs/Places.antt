@@ -1,13 +1,8 @@
 -- Events at their places, and writes by place and by number.
 use Rattle.std.proofs.Common.{◌≡◌, ◌≢◌, ◌⊎◌, inl, inr, ℕ, suc, ◌≤◌, ◌<◌, Some, List, [], ◌∷◌, ◌++◌, length, refl, ap, sym, subst, ◌∙◌, arith}
 use Rattle.std.specs.Prelude.{◌==◌, if◌then◌else◌, slice_get}
-use Rattle.std.proofs.lemmas.Bool.{eq-eqb, ne_eqb, cases_lt}
-use Rattle.std.proofs.lemmas.Bool.Decides.{eqb_tells}
-use Rattle.std.proofs.lemmas.Option.{none-some, same_Some}
-use Rattle.register_calls.specs.declared.events.RegisterEvent.{RegisterEvent}
-use Rattle.register_calls.specs.declared.events.RegisterEvent.TheVariants.{WriteBegins, WriteEnds, ReadBegins, ReadEnds}
-use Rattle.register_calls.specs.Histories.{started, written_values}
-use Rattle.register_calls.specs.Intervals.{placed_event, IsWriteFrom}
+use Rattle.register_calls.proofs.Common.{eq-eqb, ne_eqb, cases_lt, eqb_tells, none-some, same_Some, RegisterEvent, WriteBegins, WriteEnds, ReadBegins, ReadEnds, started, written_values, placed_event}
+use Rattle.register_calls.proofs.Common.{IsWriteFrom}
 use Rattle.register_calls.proofs.ReadLemmas.{chosen, left, length-written}
 use Rattle.register_calls.proofs.Sets.{get_left, get_end}
 

@@ -1,10 +1,7 @@
 -- What a reader has under way, after one more event.
 use Rattle.std.proofs.Common.{◌≡◌, ◌≢◌, ℕ, suc, ◌≤◌, Bool, true, false, List, [], ◌∷◌, length, length-append, refl, arith}
 use Rattle.std.specs.Prelude.{◌==◌, if◌then◌else◌}
-use Rattle.std.proofs.lemmas.Bool.{eq-eqb, ne_eqb}
-use Rattle.register_calls.specs.declared.events.RegisterEvent.{RegisterEvent}
-use Rattle.register_calls.specs.declared.events.RegisterEvent.TheVariants.{ReadBegins, ReadEnds}
-use Rattle.register_calls.specs.Histories.{started, finished, written_values, has_read_open, before_read}
+use Rattle.register_calls.proofs.Common.{eq-eqb, ne_eqb, RegisterEvent, ReadBegins, ReadEnds, started, finished, written_values, has_read_open, before_read}
 
 -- a choice by a test that is known
 pub chosen : {X : Type 0} (b : Bool) (x y : X) → b ≡ true → (if b then x else y) ≡ x

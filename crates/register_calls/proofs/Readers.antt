@@ -1,11 +1,7 @@
 -- Lists of readers: what is kept about each, when one is set or added; and the reads under way.
 use Rattle.std.proofs.Common.{◌≡◌, ◌<◌, ℕ, zero, suc, Some, List, [], ◌∷◌, length, ap, arith, get_or-set_other, get_or-set_same}
 use Rattle.std.proofs.Math.ListN.{set}
-use Rattle.std.specs.Prelude.{option_map}
-use Rattle.std.proofs.lemmas.Option.{none-some}
-use Rattle.register_calls.specs.declared.auditors.OpenRead.{OpenRead}
-use Rattle.register_calls.specs.declared.auditors.ReaderState.{ReaderState}
-use Rattle.register_calls.specs.Audits.{MovesReader, reader_at, lows, own_lows}
+use Rattle.register_calls.proofs.Common.{option_map, none-some, OpenRead, ReaderState, MovesReader, reader_at, lows, own_lows}
 use Rattle.register_calls.proofs.Keeping.{KeepsOthers}
 
 pub moves_set : (xs ys : List ReaderState) (i : ℕ) (state : ReaderState) → i < length ys → ((j : ℕ) → reader_at ys j ≡ reader_at xs j) → MovesReader xs (set ys i state) i state

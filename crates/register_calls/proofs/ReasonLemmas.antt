@@ -1,18 +1,10 @@
 -- What contradicts a read is a fact: with it the history lacks the class.
 use Rattle.std.proofs.Common.{◌≡◌, inl, inr, ℕ, ◌≤◌, Some, List, [], ◌∷◌, length, sym, subst, ◌∙◌, arith}
 use Rattle.std.specs.Prelude.{slice_get}
-use Rattle.std.proofs.lemmas.Bool.{cases_lt}
-use Rattle.std.proofs.lemmas.Option.{same_Some}
-use Rattle.register_calls.specs.declared.events.Register.{Register}
-use Rattle.register_calls.specs.declared.events.RegisterEvent.{RegisterEvent}
-use Rattle.register_calls.specs.declared.events.RegisterEvent.TheVariants.{WriteBegins, WriteEnds, ReadBegins, ReadEnds}
-use Rattle.register_calls.specs.declared.events.Class.{Class}
-use Rattle.register_calls.specs.declared.events.Class.TheVariants.{Safe, Regular, AtomicByReader, Atomic}
-use Rattle.register_calls.specs.declared.reasons.EarlierRead.{EarlierRead}
+use Rattle.register_calls.proofs.Common.{cases_lt, same_Some, Register, RegisterEvent, WriteBegins, WriteEnds, ReadBegins, ReadEnds, Class, Safe, Regular, AtomicByReader, Atomic, EarlierRead}
+use Rattle.register_calls.proofs.Common.{IsWellFormed, IsBeginning, started, finished, written_values, before_read, Scope, Together, EachAlone, IsSafe, IsRegular, Choice, NoneIsLater, Orders}
+use Rattle.register_calls.proofs.Common.{HasOrder, HasClass, HasNone}
 use Rattle.register_calls.specs.declared.reasons.MissReason.TheVariants.{NoValue, Held, NotWritten, Inverted}
-use Rattle.register_calls.specs.Histories.{IsWellFormed, IsBeginning, started, finished, written_values, before_read}
-use Rattle.register_calls.specs.Classes.{Scope, Together, EachAlone, IsSafe, IsRegular, Choice, NoneIsLater, Orders, HasOrder, HasClass}
-use Rattle.register_calls.specs.Judging.{HasNone}
 use Rattle.register_calls.specs.Reasons.{IsBound, IsInverted, ReasonIsFact}
 use Rattle.register_calls.proofs.Beginnings.{before_read-beginning}
 use Rattle.register_calls.proofs.ClassLemmas.{order_is_regular, regular_is_safe}

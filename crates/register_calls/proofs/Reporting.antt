@@ -1,7 +1,6 @@
 -- What is counted in a history: none of the counts is more than its events.
 use Rattle.std.proofs.Common.{◌≡◌, ℕ, suc, ◌-◌, ◌≤◌, ◌<◌, Bool, List, [], ◌∷◌, length, arith}
-use Rattle.std.specs.Prelude.{nat_lt}
-use Rattle.register_calls.specs.declared.events.RegisterEvent.{RegisterEvent}
+use Rattle.register_calls.proofs.Common.{nat_lt, RegisterEvent}
 use Rattle.register_calls.specs.Reports.{one_more_if, reads_ended, overlapped_reads, overlapped_by_several, could_invert}
 
 pub few_reads : (h : List RegisterEvent) → reads_ended h ≤ length h

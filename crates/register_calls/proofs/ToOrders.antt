@@ -1,12 +1,6 @@
 -- From a choice of writes to an order of operations: by the write that each one is, or that was chosen for it, and then by place.
 use Rattle.std.proofs.Common.{◌≡◌, ◌≢◌, ◌⊎◌, inl, inr, ℕ, suc, ◌≤◌, ◌<◌, List, [], ◌∷◌, length, refl, sym, subst, ◌∙◌, arith}
-use Rattle.std.proofs.lemmas.Bool.{cases_lt}
-use Rattle.register_calls.specs.declared.events.Register.{Register}
-use Rattle.register_calls.specs.declared.events.RegisterEvent.{RegisterEvent}
-use Rattle.register_calls.specs.declared.events.RegisterEvent.TheVariants.{WriteBegins, WriteEnds, ReadBegins, ReadEnds}
-use Rattle.register_calls.specs.Histories.{before_read, IsWellFormed}
-use Rattle.register_calls.specs.Classes.{Together}
-use Rattle.register_calls.specs.Intervals.{IsWriteFrom, MayBeOf, Chooses, HasChoice}
+use Rattle.register_calls.proofs.Common.{cases_lt, Register, RegisterEvent, WriteBegins, WriteEnds, ReadBegins, ReadEnds, before_read, IsWellFormed, Together, IsWriteFrom, MayBeOf, Chooses, HasChoice}
 use Rattle.register_calls.specs.Linearizations.{RegisterOperation, AWrite, ARead, IsOperationOf, operation_start, HasEndedBy, IsOrdered, AreOnce, AreLegal, KeepsRealTime, RegisterLinearization}
 use Rattle.register_calls.proofs.Places.{placed_event-here}
 use Rattle.register_calls.proofs.Beginnings.{reading_began, read_there}

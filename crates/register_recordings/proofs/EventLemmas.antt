@@ -1,13 +1,7 @@
 -- The events of further lines: what one more event makes of what was read, and what the refusal of an event implies.
 use Rattle.std.proofs.Common.{◌≡◌, ℕ, Option, Some, None, List, reverse, subst, append_assoc, arith}
-use Rattle.register_calls.specs.declared.auditors.ReaderState.{ReaderState}
-use Rattle.register_calls.specs.declared.events.RegisterEvent.{RegisterEvent}
-use Rattle.register_calls.specs.declared.chains.Chain.{Chain}
-use Rattle.register_calls.specs.Histories.{WritesValue}
+use Rattle.register_recordings.proofs.Common.{ReaderState, RegisterEvent, Chain, WritesValue, JudgedLines, AreMisses, HasReadEvents, HasReadLineEvent}
 use Rattle.register_calls.specs.Witnesses.{RemembersRegister}
-use Rattle.register_recordings.specs.declared.recordings.JudgedLines.{JudgedLines}
-use Rattle.register_recordings.specs.Misses.{AreMisses}
-use Rattle.register_recordings.specs.Reading.{HasReadEvents, HasReadLineEvent}
 
 module _ {W R P C : Type 0} (window : W → List ℕ) (states : R → List ReaderState) (places : P → List ℕ) (chains : C → List Chain) where
   -- what was read, if no event is out of turn

@@ -4,18 +4,13 @@ use Rattle.std.specs.Prelude.{All}
 use Rattle.std.specs.List.{filter_map}
 use Rattle.std.proofs.lemmas.List.Elements.{All-head, All-push, All-tail, filter_map-append}
 use Rattle.std.proofs.lemmas.Option.{none-some, same_Some}
-use Rattle.register_calls.specs.declared.auditors.ReaderState.{ReaderState}
-use Rattle.register_calls.specs.declared.events.Register.{Register}
-use Rattle.register_calls.specs.declared.events.RegisterEvent.{RegisterEvent}
-use Rattle.register_calls.specs.declared.chains.Chain.{Chain}
+use Rattle.register_recordings.proofs.Common.{ReaderState, Register, RegisterEvent, Chain, WritesValue, JudgedLines}
 use Rattle.register_calls.specs.Witnesses.{RemembersRegister}
-use Rattle.register_calls.specs.Histories.{WritesValue}
 use Rattle.register_lines.specs.Lines.{AllowsNumbers, IsRegisterLine}
 use Rattle.register_lines.specs.declared.lines.RegisterLine.{RegisterLine}
 use Rattle.register_lines.proofs.LineLemmas.{line_same}
 use Rattle.register_recordings.specs.declared.faults.RegisterTextFault.{RegisterTextFault}
 use Rattle.register_recordings.specs.declared.faults.RegisterTextFault.TheVariants.{BadLine, TooLong, OutOfMemory}
-use Rattle.register_recordings.specs.declared.recordings.JudgedLines.{JudgedLines}
 use Rattle.register_recordings.specs.Recordings.{recorded_event, recorded_register, lacks_operations, AreRegisterLines, MayComeAfter}
 use Rattle.register_recordings.specs.Reading.{ContinuesRegister, HasJudged, HasReadEvents, HasReadLineEvent, ReadsLineEvent, RefusesLineEvent, RefusesRegisterLine}
 use Rattle.register_recordings.proofs.MissLemmas.{no_misses, none_missed}

@@ -1,3 +1,4 @@
+mod Common
 mod MissLemmas
 mod EventLemmas
 mod FurtherLines

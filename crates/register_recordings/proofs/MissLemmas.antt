@@ -3,8 +3,7 @@ use Rattle.std.proofs.Common.{rules, ◌≡◌, ℕ, ◌+◌, Option, None, List
 use Rattle.std.proofs.lemmas.List.{reverse-append, take-append-le, take_all, take_at}
 use Rattle.register_calls.specs.declared.events.Class.{Class}
 use Rattle.register_calls.specs.declared.events.Class.TheVariants.{Safe, Regular, AtomicByReader, Atomic}
-use Rattle.register_calls.specs.declared.events.Register.{Register}
-use Rattle.register_calls.specs.declared.events.RegisterEvent.{RegisterEvent}
+use Rattle.register_recordings.proofs.Common.{Register, RegisterEvent}
 use Rattle.register_calls.specs.declared.events.RegisterEvent.TheVariants.{ReadEnds}
 use Rattle.register_calls.specs.Classes.{HasClass}
 use Rattle.register_calls.specs.Findings.{IsFirstMiss}

@@ -1,24 +1,18 @@
 -- The text of a recording of a register, line by line: where a line ends, what its end shows, and that its lines are one list of lines.
 use Rattle.std.proofs.Common.{◌≡◌, ◌≢◌, Bool, ℕ, ◌+◌, ◌-◌, ◌^◌, ◌<◌, ◌≤◌, List, [], ◌∷◌, ◌++◌, length, get_or, drop, refl, ap, sym, ◌∙◌, append_assoc, length-append, arith}
 use Rattle.std.proofs.lemmas.Grind.{flat_map-append}
-use Rattle.std.proofs.lemmas.List.{append-nil}
+use Rattle.register_recordings.proofs.Common.{append-nil, ReaderState, Chain, Register, RegisterEvent, JudgedLines, ContinuesRegister, HasJudged, HasReadEvents, HasReadRegister, RefusesRegisterLine}
 use Rattle.std.proofs.lemmas.List.Elements.{All-append, All-head, All-nil, All-tail}
 use Rattle.line_parts.specs.LineEnds.{HasNoFeed}
 use Rattle.line_parts.proofs.LineFeeds.{IsOther, feed_nowhere, feed_once}
-use Rattle.register_calls.specs.declared.auditors.ReaderState.{ReaderState}
-use Rattle.register_calls.specs.declared.chains.Chain.{Chain}
-use Rattle.register_calls.specs.declared.events.Register.{Register}
-use Rattle.register_calls.specs.declared.events.RegisterEvent.{RegisterEvent}
 use Rattle.register_lines.specs.Lines.{register_line_text, AllowsNumbers}
 use Rattle.register_lines.specs.declared.lines.RegisterLine.{RegisterLine}
 use Rattle.register_lines.proofs.LineLemmas.{line_limit, line_no_feed, line_same}
 use Rattle.register_recordings.specs.declared.faults.RegisterTextFault.{RegisterTextFault}
 use Rattle.register_recordings.specs.declared.faults.RegisterTextFault.TheVariants.{BadLine, TooLong, OutOfMemory}
 use Rattle.register_recordings.specs.declared.findings.RegisterFinding.{RegisterFinding}
-use Rattle.register_recordings.specs.declared.recordings.JudgedLines.{JudgedLines}
 use Rattle.register_recordings.specs.declared.recordings.RegisterRecording.{RegisterRecording}
 use Rattle.register_recordings.specs.Recordings.{lacks_operations, register_line_bytes, register_text, AreRegisterLines, IsBadRegisterLine, IsRegisterFinding, IsRegisterFound, IsRegisterRecording, RefusesRegisterText}
-use Rattle.register_recordings.specs.Reading.{ContinuesRegister, HasJudged, HasReadEvents, HasReadRegister, RefusesRegisterLine}
 use Rattle.register_recordings.proofs.FurtherLines.{last_allowed}
 
 -- ---- lines

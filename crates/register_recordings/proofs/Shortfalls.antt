@@ -1,22 +1,16 @@
 -- Whether a history falls short of a class, and whether the bytes that record it do.
 use Rattle.std.proofs.Common.{arith, ◌≡◌, ◌≢◌, true, ℕ, Option, Some, None, List, [], ◌∷◌, refl}
 use Rattle.std.specs.List.{filter_map}
-use Rattle.register_calls.specs.declared.auditors.ReaderState.{ReaderState}
+use Rattle.register_recordings.proofs.Common.{ReaderState, Register, RegisterEvent, Chain, IsWellFormed, JudgedLines, HasJudged, HasReadEvents}
 use Rattle.register_calls.specs.declared.events.Class.{Class}
-use Rattle.register_calls.specs.declared.events.Register.{Register}
-use Rattle.register_calls.specs.declared.events.RegisterEvent.{RegisterEvent}
 use Rattle.register_calls.specs.declared.reports.RegisterReport.{RegisterReport}
-use Rattle.register_calls.specs.declared.chains.Chain.{Chain}
 use Rattle.register_calls.specs.Classes.{HasClass, IsStrongest}
-use Rattle.register_calls.specs.Histories.{IsWellFormed}
 use Rattle.register_calls.proofs.ClassLemmas.{stronger}
 use Rattle.register_lines.specs.declared.lines.RegisterLine.{RegisterLine}
 use Rattle.register_recordings.specs.declared.findings.Misses.{Misses}
 use Rattle.register_recordings.specs.declared.findings.RegisterFinding.{RegisterFinding}
 use Rattle.register_recordings.specs.declared.findings.RegisterFinding.TheVariants.{Judged}
-use Rattle.register_recordings.specs.declared.recordings.JudgedLines.{JudgedLines}
 use Rattle.register_recordings.specs.Recordings.{FallsShort, IsRegisterRecording, IsShortfall, falls_short, recorded_event, register_text}
-use Rattle.register_recordings.specs.Reading.{HasJudged, HasReadEvents}
 
 -- the strongest class is one that the history has
 strongest_has : (d : Class) (r : Register) (h : List RegisterEvent) → IsStrongest (Some d) r h → HasClass d r h

@@ -1,9 +1,7 @@
 -- Several items of one put, and of one take, take effect.
 use Rattle.std.proofs.Common.{◌≡◌, ℕ, suc, ◌+◌, ◌≤◌, Bool, false, List, [], ◌∷◌, ◌++◌, length, refl, sym, ap, subst, arith, length-append, append_assoc}
 use Rattle.std.proofs.lemmas.List.{append-nil}
-use Rattle.queue_calls.specs.Queue.{Capacity, queue, Enqueue, Dequeue}
-use Rattle.queue_calls.specs.Calls.{Event, Producer, Putting, Consumer, Taking, Point, point, CanLeadTo}
-use Rattle.queue_calls.specs.State.{IsProper, MayHold}
+use Rattle.queue_calls.proofs.Common.{Capacity, queue, Enqueue, Dequeue, Event, Producer, Putting, Consumer, Taking, Point, point, CanLeadTo, IsProper, MayHold}
 use Rattle.queue_calls.proofs.Rooms.{holds_fewer, room_for_one, room_at_first}
 use Rattle.queue_calls.proofs.Points.{goes}
 

@@ -1,11 +1,7 @@
 -- The closes: how they begin and end.
 use Rattle.std.proofs.Common.{◌≡◌, ◌⊎◌, inl, inr, ℕ, Bool, true, false, List, [], ◌∷◌, ◌++◌, length, refl, sym, ap, subst, ◌∙◌, arith}
-use Rattle.queue_calls.specs.Queue.{Capacity, Queue, queue, IsDrained, Close, FindClosed}
-use Rattle.queue_calls.specs.Calls.{Event, CloseBegin, CloseEnd, Idle, Closing, Consumer, Resting, Taking, FoundClosed, Point, point, CanLeadTo}
-use Rattle.queue_calls.specs.declared.turns.PutTurn.TheVariants.{Free, Closes}
-use Rattle.queue_calls.specs.declared.turns.TakeTurn.{TakeTurn}
-use Rattle.queue_calls.specs.declared.turns.TakeTurn.TheVariants.{Rests, Waits}
-use Rattle.queue_calls.specs.State.{taken_by, FitsTake, Describes, IsSoundTake, Keeps}
+use Rattle.queue_calls.proofs.Common.{Capacity, Queue, queue, IsDrained, Close, FindClosed, Event, CloseBegin, CloseEnd, Idle, Closing, Consumer, Resting, Taking, FoundClosed, Point, point, CanLeadTo}
+use Rattle.queue_calls.proofs.Common.{Free, Closes, TakeTurn, Rests, Waits, taken_by, FitsTake, Describes, IsSoundTake, Keeps}
 use Rattle.queue_calls.proofs.Points.{goes, happens}
 use Rattle.queue_calls.proofs.Effects.{described_at}
 use Rattle.queue_calls.proofs.Keeping.{Accepts, accept}

@@ -1,11 +1,8 @@
 -- The puts: how they begin.
 use Rattle.std.proofs.Common.{◌≡◌, inl, inr, ℕ, zero, suc, ◌+◌, ◌-◌, ◌<◌, ◌≤◌, Bool, true, false, List, [], ◌∷◌, ◌++◌, length, refl, sym, ap, subst, ◌∙◌, arith, length-append, append_assoc}
 use Rattle.std.proofs.lemmas.List.{append-nil}
-use Rattle.queue_calls.specs.Queue.{Capacity, Queue, queue, FindNoRoom, FindShut}
-use Rattle.queue_calls.specs.Calls.{Event, PutBegin, Producer, Idle, Putting, FoundShut, Closing, Consumer, Resting, Taking, Point, point, CanLeadTo}
-use Rattle.queue_calls.specs.declared.turns.PutTurn.TheVariants.{Free, Offers, Late}
-use Rattle.queue_calls.specs.declared.turns.TakeTurn.{TakeTurn}
-use Rattle.queue_calls.specs.State.{MayHold, taken_by, MayLack, FitsTake, Describes, asked_by, IsSoundTake, TellsPoint, Keeps}
+use Rattle.queue_calls.proofs.Common.{Capacity, Queue, queue, FindNoRoom, FindShut, Event, PutBegin, Producer, Idle, Putting, FoundShut, Closing, Consumer, Resting, Taking, Point, point, CanLeadTo}
+use Rattle.queue_calls.proofs.Common.{Free, Offers, Late, TakeTurn, MayHold, taken_by, MayLack, FitsTake, Describes, asked_by, IsSoundTake, TellsPoint, Keeps}
 use Rattle.queue_calls.proofs.Rooms.{holds_fewer, over, over_holds, over_least, over_few, over_lacks}
 use Rattle.queue_calls.proofs.Points.{goes, happens}
 use Rattle.queue_calls.proofs.Effects.{described_at, fits_while_open, fits_alike}

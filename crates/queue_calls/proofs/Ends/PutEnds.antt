@@ -2,11 +2,8 @@
 use Rattle.std.proofs.Common.{◌≡◌, ◌⊎◌, inl, inr, ℕ, ◌+◌, ◌-◌, ◌≤◌, Bool, true, false, List, [], ◌++◌, length, take, drop, refl, sym, subst, ◌∙◌, arith, length-append, length-drop, append_assoc}
 use Rattle.std.proofs.lemmas.List.{append-nil, take-append-drop, length-take-le}
 use Rattle.std.proofs.Math.Seq.{take-append_seam}
-use Rattle.queue_calls.specs.Queue.{Capacity, Queue}
+use Rattle.queue_calls.proofs.Common.{Capacity, Queue, Free, Offers, Late, TakeTurn, taken_by, FitsPut, FitsTake, asked_by, IsSoundTake, MayLack, CanEndPut, TellsPoint, Keeps}
 use Rattle.queue_calls.specs.Calls.{Event, PutEnd, Reply, Nothing, Shut, passed, is_shut, CanReply, lacked_by, Happens, Producer, Idle, Putting, Consumer, ProducerStep, point}
-use Rattle.queue_calls.specs.declared.turns.PutTurn.TheVariants.{Free, Offers, Late}
-use Rattle.queue_calls.specs.declared.turns.TakeTurn.{TakeTurn}
-use Rattle.queue_calls.specs.State.{taken_by, FitsPut, FitsTake, asked_by, IsSoundTake, MayLack, CanEndPut, TellsPoint, Keeps}
 use Rattle.queue_calls.proofs.Replies.{few}
 use Rattle.queue_calls.proofs.Rooms.{holds_fewer}
 use Rattle.queue_calls.proofs.Points.{happens}

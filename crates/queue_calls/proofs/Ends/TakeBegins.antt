@@ -1,13 +1,9 @@
 -- The takes: how they begin.
 use Rattle.std.proofs.Common.{◌≡◌, ◌⊎◌, inl, inr, ℕ, ◌+◌, ◌-◌, ◌<◌, ◌≤◌, Bool, true, false, List, [], ◌∷◌, ◌++◌, length, refl, sym, ap, subst, ◌∙◌, arith, length-append}
 use Rattle.std.proofs.lemmas.List.{append-nil}
-use Rattle.std.proofs.lemmas.Bool.{cases_lt}
-use Rattle.queue_calls.specs.Queue.{Capacity, Queue, queue, IsDrained, Close, FindFewer, FindClosed}
-use Rattle.queue_calls.specs.Calls.{Event, TakeBegin, Producer, Idle, Putting, FoundShut, Closing, Consumer, Resting, Taking, FoundClosed, Point, point, CanLeadTo}
-use Rattle.queue_calls.specs.declared.turns.PutTurn.{PutTurn}
-use Rattle.queue_calls.specs.declared.turns.PutTurn.TheVariants.{Free, Offers, Late, Closes}
-use Rattle.queue_calls.specs.declared.turns.TakeTurn.TheVariants.{Rests, Waits}
-use Rattle.queue_calls.specs.State.{IsProper, MayHold, taken_by, left_by, MayLack, MayFindFewer, FitsPut, Describes, offered_by, IsSoundPut, TellsPoint, Keeps}
+use Rattle.queue_calls.proofs.Common.{cases_lt, Capacity, Queue, queue, IsDrained, Close, FindFewer, FindClosed, Event, TakeBegin, Producer, Idle, Putting, FoundShut, Closing, Consumer, Resting}
+use Rattle.queue_calls.proofs.Common.{Taking, FoundClosed, Point, point, CanLeadTo, PutTurn, Free, Offers, Late, Closes, Rests, Waits, IsProper, MayHold, taken_by, left_by, MayLack, MayFindFewer}
+use Rattle.queue_calls.proofs.Common.{FitsPut, Describes, offered_by, IsSoundPut, TellsPoint, Keeps}
 use Rattle.queue_calls.proofs.Rooms.{holds_fewer, holds_none}
 use Rattle.queue_calls.proofs.Points.{start, goes, happens, only_start}
 use Rattle.queue_calls.proofs.Effects.{described_at, stays}

@@ -1,14 +1,9 @@
 -- The takes: how they end.
 use Rattle.std.proofs.Common.{◌≡◌, inl, inr, ℕ, ◌+◌, ◌-◌, ◌<◌, ◌≤◌, Bool, true, false, List, [], ◌∷◌, ◌++◌, length, take, drop, slice_index_or, refl, sym, ap, subst, ◌∙◌, arith, length-append, append_assoc}
-use Rattle.std.proofs.lemmas.Bool.{cases_lt}
+use Rattle.queue_calls.proofs.Common.{cases_lt, Capacity, PutTurn, Rests, Waits, MayHold, left_by, has_closed, FitsPut, offered_by, IsSoundPut, MayFindFewer, AreNext, CanEndTake, Keeps, FoundFewer}
 use Rattle.std.proofs.lemmas.List.{length-take-le, take_more}
 use Rattle.std.proofs.Math.Seq.{drop-append_seam, get_or-append_seam}
-use Rattle.queue_calls.specs.Queue.{Capacity}
 use Rattle.queue_calls.specs.Calls.{Event, TakeEnd, Reply, passed, is_shut, CanReply, lacked_by, Producer, Consumer, Resting, Taking, FoundClosed, point}
-use Rattle.queue_calls.specs.declared.turns.PutTurn.{PutTurn}
-use Rattle.queue_calls.specs.declared.turns.TakeTurn.TheVariants.{Rests, Waits}
-use Rattle.queue_calls.specs.State.{MayHold, left_by, has_closed, FitsPut, offered_by, IsSoundPut, MayFindFewer, AreNext, CanEndTake, Keeps}
-use Rattle.queue_calls.specs.Counting.{FoundFewer}
 use Rattle.queue_calls.proofs.Replies.{few, shut_within}
 use Rattle.queue_calls.proofs.Rooms.{holds_fewer, holds_none}
 use Rattle.queue_calls.proofs.Points.{happens}

@@ -1,10 +1,5 @@
 use Rattle.std.proofs.Common.{◌≡◌, ◌∙◌, inl, inr, true, length, refl, sym, ap}
-use Rattle.std.proofs.Math.Seq.{take-length}
-use Rattle.queue_calls.specs.Calls.{passed, is_shut}
-use Rattle.queue_calls.specs.InTurn.{NoCall, sides}
-use Rattle.queue_calls.specs.State.{call_of_put, call_of_take}
-use Rattle.queue_calls.specs.Told.{reply_by}
-use Rattle.queue_calls.specs.declared.turns.PutTurn.TheVariants.{Late, Offers}
+use Rattle.queue_calls.proofs.Common.{take-length, passed, is_shut, NoCall, sides, call_of_put, call_of_take, reply_by, Late, Offers}
 use Rattle.queue_calls.proofs.Replies.{shut_within}
 use Rattle.queue_calls.proofs.auditors.CallAuditor.put_ends.Goals as goal
 

@@ -1,8 +1,5 @@
 use Rattle.std.proofs.Common.{sym, subst, [], ℕ, false, List}
-use Rattle.queue_calls.specs.declared.turns.PutTurn.TheVariants.{Free}
-use Rattle.queue_calls.specs.declared.turns.TakeTurn.TheVariants.{Rests}
-use Rattle.queue_calls.specs.State.{Keeps}
-use Rattle.queue_calls.specs.Told.{meant}
+use Rattle.queue_calls.proofs.Common.{Free, Rests, Keeps, meant}
 use Rattle.queue_calls.proofs.Ends.TakeBegins.{keeps_nothing}
 use Rattle.queue_calls.proofs.auditors.CallAuditor.with.Goals as goal
 

@@ -1,8 +1,5 @@
 use Rattle.std.proofs.Common.{sym, subst, []}
-use Rattle.queue_calls.specs.Recordings.{capacity_told}
-use Rattle.queue_calls.specs.Reporting.{IsSurelyInside, IsPerhapsInside}
-use Rattle.queue_calls.specs.State.{IsProper}
-use Rattle.queue_calls.specs.Witnesses.{Remembers}
+use Rattle.queue_calls.proofs.Common.{capacity_told, IsSurelyInside, IsPerhapsInside, IsProper, Remembers}
 use Rattle.queue_calls.proofs.HearingLemmas.{proper_told}
 use Rattle.queue_calls.proofs.InsideMoments.{perhaps_none, surely_none}
 use Rattle.queue_calls.proofs.hearings.Hearing.begins.Goals as goal

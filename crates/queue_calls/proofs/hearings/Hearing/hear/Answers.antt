@@ -1,7 +1,6 @@
 use Rattle.std.proofs.Common.{◌∙◌, sym}
-use Rattle.queue_calls.specs.Told.{told}
+use Rattle.queue_calls.proofs.Common.{told, then_err, then_ok}
 use Rattle.queue_calls.proofs.HearingLemmas.{fault_stays, no_fault}
-use Rattle.lists.proofs.Results.{then_err, then_ok}
 use Rattle.queue_calls.proofs.NextLines.{fault_next, no_fault_is}
 use Rattle.queue_calls.proofs.hearings.Hearing.hear.Goals as goal
 

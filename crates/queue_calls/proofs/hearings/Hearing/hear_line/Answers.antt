@@ -1,7 +1,6 @@
 use Rattle.std.proofs.Common.{◌∙◌, Some, None, refl, sym, ap, subst, arith}
 use Rattle.queue_calls.specs.Hearings.{RefusesNextLine}
-use Rattle.queue_calls.specs.Recordings.{line, begun_after}
-use Rattle.queue_calls.specs.Told.{told}
+use Rattle.queue_calls.proofs.Common.{line, begun_after, told}
 use Rattle.queue_calls.proofs.NextLines.{are_small, has_heard, heard_as, line_at_fault, line_heard, line_outgrows, tells_none}
 use Rattle.queue_calls.proofs.hearings.Hearing.hear_line.Goals as goal
 

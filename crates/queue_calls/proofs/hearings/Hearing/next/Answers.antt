@@ -1,8 +1,5 @@
 use Rattle.std.proofs.Common.{None, ◌∷◌, ◌++◌, [], sym, subst}
-use Rattle.queue_calls.specs.Noting.{OutgrowsLists}
-use Rattle.queue_calls.specs.Witnesses.{RefusesNext}
-use Rattle.queue_calls.specs.Told.{told}
-use Rattle.queue_calls.specs.Tallying.{IsToldOf}
+use Rattle.queue_calls.proofs.Common.{OutgrowsLists, RefusesNext, told, IsToldOf}
 use Rattle.queue_calls.proofs.HearingLemmas.{heard_linear, heard_more, stops_here}
 use Rattle.queue_calls.proofs.NextLines.{heard_as}
 use Rattle.queue_calls.proofs.hearings.Hearing.next.Goals as goal

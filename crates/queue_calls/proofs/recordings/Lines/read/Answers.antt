@@ -1,18 +1,10 @@
 use Rattle.std.proofs.Common.{◌≡◌, ◌≢◌, ap, ◌∙◌, ℕ, ◌+◌, List, [], ◌∷◌, ◌++◌, length, Option, Some, IfSome, inl, length-append, ap₂, sym, subst, arith}
-use Rattle.std.proofs.lemmas.List.{nil_from_length}
-use Rattle.call_lines.specs.Lines.{IsLine}
-use Rattle.queue_calls.specs.Noting.{OutgrowsLists}
-use Rattle.queue_calls.specs.Recordings.{AreLines, Line, line, first_word, begun_after, begun_behind, capacity_told, event_told, events_told}
-use Rattle.queue_calls.specs.RecordingStates.{HasHeard, HasLines, HeardLines}
-use Rattle.queue_calls.specs.Told.{told}
+use Rattle.queue_calls.proofs.Common.{nil_from_length, IsLine, OutgrowsLists, AreLines, Line, line, first_word, begun_after, begun_behind, capacity_told, event_told, events_told, HasHeard, HasLines}
+use Rattle.queue_calls.proofs.Common.{HeardLines, told, Offered, Taken, Word, then_err, then_ok}
 use Rattle.call_causes.specs.declared.entries.TheConstants.{TAKEN_LIMIT}
-use Rattle.call_causes.specs.declared.entries.Offered.{Offered}
-use Rattle.call_causes.specs.declared.entries.Taken.{Taken}
-use Rattle.call_lines.specs.declared.lines.Word.{Word}
 use Rattle.queue_calls.specs.declared.hearings.Begun.TheVariants as begun
 use Rattle.queue_calls.specs.declared.recordings.Lines.{Lines}
 use Rattle.queue_calls.proofs.HeardLines.{first_line, is_line, first_heard, further_line, count_is, further_heard, not_the_first, not_further}
-use Rattle.lists.proofs.Results.{then_err, then_ok}
 use Rattle.queue_calls.proofs.NotingLemmas.{line_long}
 use Rattle.queue_calls.proofs.recordings.Lines.read.Goals as goal
 use Rattle.queue_calls.proofs.recordings.Lines.read.Goals.{else-ne-via-then-ne+else-ne-2, else-ne-via-else-ne}

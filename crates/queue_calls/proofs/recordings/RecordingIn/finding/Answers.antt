@@ -1,7 +1,6 @@
 use Rattle.std.proofs.Common.{◌∙◌, ◌≢◌, ℕ, List, [], length, ap, sym, subst, arith}
 use Rattle.std.proofs.lemmas.Bool.{eq-eqb, eqb-true, false≢true}
-use Rattle.std.proofs.lemmas.List.{nil_from_length}
-use Rattle.queue_calls.specs.Recordings.{IsFindingWithin}
+use Rattle.queue_calls.proofs.Common.{nil_from_length, IsFindingWithin}
 use Rattle.queue_calls.proofs.RecordingLemmas.{found, cut_refused, too_long}
 use Rattle.queue_calls.proofs.recordings.RecordingIn.finding.Goals as goal
 use Rattle.queue_calls.proofs.recordings.RecordingIn.finding.Goals.{else-self-gt0-via-then-self-gt0+else-is_empty, else-self-gt0-via-else-self-gt0}

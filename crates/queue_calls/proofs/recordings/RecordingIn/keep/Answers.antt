@@ -1,10 +1,7 @@
 use Rattle.std.proofs.Common.{◌≢◌, ◌∙◌, ◌++◌, [], List, ℕ, inr, length, ap, sym, append-nil, append_assoc, length-append, arith}
-use Rattle.std.proofs.lemmas.Bool.{false≢true}
-use Rattle.std.proofs.lemmas.List.Elements.{All-append}
-use Rattle.queue_calls.specs.Recordings.{lines_text}
+use Rattle.queue_calls.proofs.Common.{false≢true, All-append, lines_text, if_err}
 use Rattle.queue_calls.proofs.KeptLines.{all_begins, begins_bad, bytes_kept, still_begins}
 use Rattle.queue_calls.proofs.RecordingLemmas.{too_long}
-use Rattle.lists.proofs.Results.{if_err}
 use Rattle.queue_calls.proofs.recordings.RecordingIn.keep.Goals as goal
 
 pub returns-in_err-extend_from_slice-clause-full : goal.returns-in_err-extend_from_slice-clause-full

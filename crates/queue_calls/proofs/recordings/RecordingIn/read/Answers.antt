@@ -1,12 +1,9 @@
 use Rattle.std.proofs.Common.{◌≡◌, ◌∙◌, ◌++◌, ◌∷◌, [], List, ℕ, refl, ap, sym, subst, append_assoc, rules}
 use Rattle.std.proofs.lemmas.List.{append-nil}
-use Rattle.queue_calls.specs.Rooms.{AreTooShort, rooms_in}
+use Rattle.queue_calls.proofs.Common.{AreTooShort, rooms_in, of_err, then_err, then_ok, RefusesText, HasRead}
 use Rattle.queue_calls.specs.declared.faults.RecordingFault.{RecordingFault}
 use Rattle.queue_calls.specs.declared.faults.RecordingFault.TheVariants.{OutOfMemory}
-use Rattle.lists.proofs.Results.{of_err, then_err, then_ok}
 use Rattle.queue_calls.proofs.NotingLemmas.{rooms_same, too_short_on}
-use Rattle.queue_calls.specs.Recordings.{RefusesText}
-use Rattle.queue_calls.specs.RecordingStates.{HasRead}
 use Rattle.queue_calls.proofs.recordings.RecordingIn.read.Goals as goal
 
 -- a piece of which a part was read, and then a line

@@ -1,6 +1,5 @@
 use Rattle.std.proofs.Common.{◌≡◌, ◌++◌, List, ℕ, length}
-use Rattle.queue_calls.specs.RecordingStates.{HasRead}
-use Rattle.queue_calls.specs.Rooms.{rooms_in}
+use Rattle.queue_calls.proofs.Common.{HasRead, rooms_in}
 use Rattle.queue_calls.proofs.recordings.RecordingIn.read.Given as goal
 
 -- what was read of the piece, and what is left

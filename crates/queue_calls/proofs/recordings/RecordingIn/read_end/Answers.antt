@@ -1,13 +1,7 @@
 use Rattle.std.proofs.Common.{◌≡◌, ◌≢◌, inr, length-append, arith, ◌∙◌, ◌++◌, ◌∷◌, [], List, ℕ, ap, length, sym, rules}
-use Rattle.std.proofs.lemmas.Bool.{eqb-true}
-use Rattle.std.proofs.lemmas.List.{nil_from_length}
-use Rattle.std.proofs.lemmas.List.Elements.{All-append}
-use Rattle.queue_calls.specs.Recordings.{lines_text}
-use Rattle.queue_calls.specs.Rooms.{AreTooShort, rooms_in}
+use Rattle.queue_calls.proofs.Common.{eqb-true, nil_from_length, All-append, lines_text, AreTooShort, rooms_in, HasRead, if_err, of_err}
 use Rattle.queue_calls.specs.declared.faults.RecordingFault.{RecordingFault}
 use Rattle.queue_calls.specs.declared.faults.RecordingFault.TheVariants.{OutOfMemory}
-use Rattle.queue_calls.specs.RecordingStates.{HasRead}
-use Rattle.lists.proofs.Results.{if_err, of_err}
 use Rattle.queue_calls.proofs.RecordingLemmas.{end_refused, ended_text, line_ended}
 use Rattle.queue_calls.proofs.NotingLemmas.{line_short}
 use Rattle.queue_calls.proofs.recordings.RecordingIn.read_end.Goals as goal

@@ -1,6 +1,5 @@
 use Rattle.std.proofs.Common.{◌∙◌, ◌∷◌, sym, subst}
-use Rattle.queue_calls.specs.Tallying.{IsToldOf, Tallies}
-use Rattle.queue_calls.specs.Told.{told}
+use Rattle.queue_calls.proofs.Common.{IsToldOf, Tallies, told}
 use Rattle.queue_calls.proofs.reports.Tally.adds.Goals as goal
 
 pub returns-in-TakeBegins-clause-tallies : goal.returns-in-TakeBegins-clause-tallies

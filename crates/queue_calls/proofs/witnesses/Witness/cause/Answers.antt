@@ -1,18 +1,8 @@
 use Rattle.std.proofs.Common.{◌≡◌, inl, inr, ℕ, ◌+◌, Some, None, List, [], ◌∷◌, ◌++◌, length, refl, sym, ap, subst, ◌∙◌, reverse}
-use Rattle.std.proofs.lemmas.Option.{none-some}
+use Rattle.queue_calls.proofs.Common.{none-some, Capacity, Event, IsLinearizable, CallsAreInTurn, MovesSides, Sides, sides_of, told, Remembers, Cause, Offered, Taken, Witness}
 use Rattle.std.specs.Borrow.{Bor}
-use Rattle.queue_calls.specs.Queue.{Capacity}
-use Rattle.queue_calls.specs.Calls.{Event, IsLinearizable}
-use Rattle.queue_calls.specs.InTurn.{CallsAreInTurn, MovesSides, Sides}
 use Rattle.queue_calls.specs.Reasons.{IsCause, cause_of}
-use Rattle.queue_calls.specs.State.{sides_of}
-use Rattle.queue_calls.specs.Told.{told}
-use Rattle.queue_calls.specs.Witnesses.{Remembers}
-use Rattle.call_causes.specs.declared.causes.Cause.{Cause}
-use Rattle.call_causes.specs.declared.entries.Offered.{Offered}
-use Rattle.call_causes.specs.declared.entries.Taken.{Taken}
 use Rattle.queue_calls.specs.declared.events.CallEvent.{CallEvent}
-use Rattle.queue_calls.specs.declared.witnesses.Witness.{Witness}
 use Rattle.queue_calls.proofs.CauseFound.{fault_has_a_cause}
 use Rattle.queue_calls.proofs.Remembering.{in_turn, linear_of}
 use Rattle.queue_calls.proofs.witnesses.Witness.cause.Goals as goal

@@ -1,6 +1,5 @@
 use Rattle.std.proofs.Common.{◌∙◌, ap, sym}
-use Rattle.queue_calls.specs.Reasons.{at}
-use Rattle.call_causes.specs.declared.causes.Cause.TheVariants.{ClosedWhileInside}
+use Rattle.queue_calls.proofs.Common.{at, ClosedWhileInside}
 use Rattle.queue_calls.proofs.CauseTold.{closed_inside, closed_open}
 use Rattle.queue_calls.proofs.Remembering.{agrees_of}
 use Rattle.queue_calls.proofs.witnesses.Witness.closed_cause.Goals as goal

@@ -1,6 +1,5 @@
 use Rattle.std.proofs.Common.{◌∙◌, ap, arith}
-use Rattle.queue_calls.specs.Reasons.{at}
-use Rattle.call_causes.specs.declared.causes.Cause.TheVariants.{EmptyAfterClose, EmptyWhileInside}
+use Rattle.queue_calls.proofs.Common.{at, EmptyAfterClose, EmptyWhileInside}
 use Rattle.queue_calls.proofs.CauseTold.{empty_early, empty_inside, empty_late, take_ends}
 use Rattle.queue_calls.proofs.Remembering.{agrees_of, ended_is, not_told}
 use Rattle.queue_calls.proofs.witnesses.Witness.empty_cause.Goals as goal

@@ -1,6 +1,5 @@
 use Rattle.std.proofs.Common.{◌≡◌, ◌<◌, ◌≤◌, true, false, sym, ◌∙◌, ap, arith}
-use Rattle.queue_calls.specs.Reasons.{at}
-use Rattle.call_causes.specs.declared.causes.Cause.TheVariants.{NoMoreWhileInside}
+use Rattle.queue_calls.proofs.Common.{at, NoMoreWhileInside}
 use Rattle.queue_calls.proofs.CauseTold.{fewer_inside, fewer_left}
 use Rattle.queue_calls.proofs.Remembering.{agrees_of}
 use Rattle.queue_calls.proofs.witnesses.Witness.fewer_cause.Goals as goal

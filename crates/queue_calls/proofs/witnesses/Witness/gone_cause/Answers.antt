@@ -1,9 +1,6 @@
 use Rattle.std.proofs.Common.{◌≡◌, ◌+◌, ◌++◌, ◌==◌, List, map, if◌then◌else◌, Some, None, sym, ap, ◌∙◌, reverse}
-use Rattle.std.specs.Prelude.{find}
-use Rattle.std.proofs.lemmas.List.{length-reverse}
+use Rattle.queue_calls.proofs.Common.{find, length-reverse, last_taken_of, Taken}
 use Rattle.queue_calls.specs.Reasons.{again_cause, last_of, line_behind, taken, taken_at}
-use Rattle.queue_calls.specs.Witnesses.{last_taken_of}
-use Rattle.call_causes.specs.declared.entries.Taken.{Taken}
 use Rattle.queue_calls.proofs.CauseTold.{taken_first}
 use Rattle.queue_calls.proofs.witnesses.Witness.gone_cause.Goals as goal
 

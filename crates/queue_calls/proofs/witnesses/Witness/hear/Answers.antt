@@ -1,15 +1,9 @@
 use Rattle.std.proofs.Common.{rules, ◌≡◌, inl, inr, ℕ, ◌<◌, false, List, [], ◌∷◌, ◌++◌, map, length, refl, ap, ap₂, sym, subst, ◌∙◌, reverse, arith, append-nil, Err}
-use Rattle.queue_calls.specs.Queue.{Capacity}
+use Rattle.queue_calls.proofs.Common.{Capacity, Counts, kept, OutgrowsLists, all_got, items_of, last_in, last_of, line_behind, offered_at, taken, taken_at, meant, reply_by, told, RefusesNext}
+use Rattle.queue_calls.proofs.Common.{Remembers, mark_last, Witness, then_err, then_ok}
 use Rattle.queue_calls.specs.Calls.{Event, PutEnd, TakeEnd, Reply, Shut, passed, is_shut}
-use Rattle.queue_calls.specs.Counting.{Counts, kept}
 use Rattle.queue_calls.specs.Insides.{Moves}
-use Rattle.queue_calls.specs.Noting.{OutgrowsLists, all_got}
-use Rattle.queue_calls.specs.Reasons.{items_of, last_in, last_of, line_behind, offered_at, taken, taken_at}
-use Rattle.queue_calls.specs.Told.{meant, reply_by, told}
-use Rattle.queue_calls.specs.Witnesses.{RefusesNext, Remembers, mark_last}
-use Rattle.queue_calls.specs.declared.witnesses.Witness.{Witness}
 use Rattle.queue_calls.proofs.Hears.{audits, counted_so, first_line, heard, kept_same, line_is, mark_items, next_remembers, put_after, refuses, still_remembers, stored_line, taken_all, taken_kept, told_so}
-use Rattle.lists.proofs.Results.{then_err, then_ok}
 use Rattle.queue_calls.proofs.Remembering.{kept_of}
 use Rattle.queue_calls.proofs.Decided.{decides_reads}
 use Rattle.queue_calls.proofs.Replies.{shut_is, told_line_on}

@@ -1,8 +1,5 @@
 use Rattle.std.proofs.Common.{◌≡◌, ◌<◌, ◌≤◌, List, length, false, sym, ap, ◌∙◌, reverse, drop, suc}
-use Rattle.std.proofs.lemmas.Bool.{ltb-false, ltb-true}
-use Rattle.queue_calls.specs.Reasons.{coming, has_told, told_closed_line}
-use Rattle.queue_calls.specs.Witnesses.{agreed}
-use Rattle.call_causes.specs.declared.entries.Offered.{Offered}
+use Rattle.queue_calls.proofs.Common.{ltb-false, ltb-true, coming, has_told, told_closed_line, agreed, Offered}
 use Rattle.queue_calls.proofs.CauseTold.{all_passed, behind_passed, no_line, told_off}
 use Rattle.queue_calls.proofs.witnesses.Witness.items_cause.Goals as goal
 

@@ -1,6 +1,5 @@
 use Rattle.std.proofs.Common.{◌≡◌, ◌-◌, length, ◌∙◌, ap, arith}
-use Rattle.queue_calls.specs.State.{offered_by}
-use Rattle.call_causes.specs.declared.causes.Cause.TheVariants.{NotTaken}
+use Rattle.queue_calls.proofs.Common.{offered_by, NotTaken}
 use Rattle.queue_calls.proofs.CauseTold.{too_few}
 use Rattle.queue_calls.proofs.Remembering.{agrees_of, kept_of}
 use Rattle.queue_calls.proofs.witnesses.Witness.not_taken_cause.Goals as goal

@@ -1,9 +1,5 @@
 use Rattle.std.proofs.Common.{◌≡◌, ℕ, Some, List, subst, reverse}
-use Rattle.queue_calls.specs.Queue.{Capacity}
-use Rattle.queue_calls.specs.Calls.{Event, PutEnd}
-use Rattle.queue_calls.specs.Reasons.{cause_of}
-use Rattle.queue_calls.specs.Told.{reply_by}
-use Rattle.call_causes.specs.declared.causes.Cause.{Cause}
+use Rattle.queue_calls.proofs.Common.{Capacity, Event, PutEnd, cause_of, reply_by, Cause}
 use Rattle.queue_calls.specs.declared.events.Reply.{Reply}
 use Rattle.queue_calls.proofs.witnesses.Witness.put_cause.Goals as goal
 

@@ -1,15 +1,5 @@
 use Rattle.std.proofs.Common.{◌≡◌, ℕ, Bool, false, List, [], ◌-◌, refl, sym, ap, ◌∙◌, arith}
-use Rattle.std.proofs.lemmas.List.{drop_all}
-use Rattle.queue_calls.specs.Queue.{Capacity, queue}
-use Rattle.queue_calls.specs.Calls.{Idle, Resting, point}
-use Rattle.queue_calls.specs.Counting.{kept}
-use Rattle.queue_calls.specs.Reasons.{items_of}
-use Rattle.queue_calls.specs.State.{FitsPut, Keeps}
-use Rattle.queue_calls.specs.Told.{meant}
-use Rattle.queue_calls.specs.declared.turns.PutTurn.{PutTurn}
-use Rattle.queue_calls.specs.declared.turns.PutTurn.TheVariants.{Free, Offers, Late, Closes}
-use Rattle.queue_calls.specs.declared.turns.TakeTurn.{TakeTurn}
-use Rattle.queue_calls.specs.declared.turns.TakeTurn.TheVariants.{Rests}
+use Rattle.queue_calls.proofs.Common.{drop_all, Capacity, queue, Idle, Resting, point, kept, items_of, FitsPut, Keeps, meant, PutTurn, Free, Offers, Late, Closes, TakeTurn, Rests}
 use Rattle.queue_calls.proofs.Points.{start}
 use Rattle.queue_calls.proofs.witnesses.Witness.restart.Goals as goal
 use Rattle.queue_calls.proofs.CountsFollow.{resting_tells as rests}

@@ -1,6 +1,5 @@
 use Rattle.std.proofs.Common.{◌≡◌, ◌≤◌, ◌∙◌, ap, sym, subst, arith, true, false}
-use Rattle.queue_calls.specs.State.{MayHold}
-use Rattle.call_causes.specs.declared.causes.Cause.TheVariants.{OnlySomeStored, OnlySomeWithRoom, StoredAfterClose}
+use Rattle.queue_calls.proofs.Common.{MayHold, OnlySomeStored, OnlySomeWithRoom, StoredAfterClose}
 use Rattle.queue_calls.proofs.CauseFound.{offers_so_many}
 use Rattle.queue_calls.proofs.CauseTold.{late_stored, stored_gone, stored_over, stored_room}
 use Rattle.queue_calls.proofs.Remembering.{agrees_of, was_late}

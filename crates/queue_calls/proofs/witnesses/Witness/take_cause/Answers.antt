@@ -1,10 +1,6 @@
 use Rattle.std.proofs.Common.{◌≡◌, ℕ, Some, List, [], length, subst, reverse, arith}
 use Rattle.std.specs.Borrow.{Bor}
-use Rattle.queue_calls.specs.Queue.{Capacity}
-use Rattle.queue_calls.specs.Calls.{Event, TakeEnd, CanReply, passed}
-use Rattle.queue_calls.specs.Reasons.{cause_of}
-use Rattle.queue_calls.specs.Told.{reply_by}
-use Rattle.call_causes.specs.declared.causes.Cause.{Cause}
+use Rattle.queue_calls.proofs.Common.{Capacity, Event, TakeEnd, CanReply, passed, cause_of, reply_by, Cause}
 use Rattle.queue_calls.specs.declared.events.Reply.{Reply}
 use Rattle.queue_calls.proofs.witnesses.Witness.take_cause.Goals as goal
 

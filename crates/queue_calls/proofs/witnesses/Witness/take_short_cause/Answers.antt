@@ -1,6 +1,5 @@
 use Rattle.std.proofs.Common.{◌≡◌, ◌<◌, length, true, ◌∙◌, ap, reverse, arith}
-use Rattle.queue_calls.specs.Reasons.{at, coming}
-use Rattle.call_causes.specs.declared.causes.Cause.TheVariants.{ShortAfterClose, ShortWhileInside}
+use Rattle.queue_calls.proofs.Common.{at, coming, ShortAfterClose, ShortWhileInside}
 use Rattle.queue_calls.proofs.Agreeing.{both}
 use Rattle.queue_calls.proofs.CauseFound.{wants_so_many}
 use Rattle.queue_calls.proofs.CauseTold.{short_early, short_inside, short_late, take_ends}

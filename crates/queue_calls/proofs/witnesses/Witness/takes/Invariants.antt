@@ -1,6 +1,5 @@
 use Rattle.std.proofs.Common.{◌≡◌, ◌<◌, List, ◌++◌, map, take}
-use Rattle.queue_calls.specs.Reasons.{last_in, last_of, taken_at}
-use Rattle.call_causes.specs.declared.entries.Taken.{Taken}
+use Rattle.queue_calls.proofs.Common.{last_in, last_of, taken_at, Taken}
 use Rattle.queue_calls.proofs.LastOnes.{taken_behind}
 use Rattle.queue_calls.proofs.witnesses.Witness.takes.Given as goal
 

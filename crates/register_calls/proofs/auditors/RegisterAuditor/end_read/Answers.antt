@@ -1,7 +1,5 @@
 use Rattle.std.proofs.Common.{None, List, refl, sym, subst}
-use Rattle.register_calls.specs.declared.auditors.ReaderState.{ReaderState}
-use Rattle.register_calls.specs.Judging.{IsRaised}
-use Rattle.register_calls.specs.Audits.{MovesReader, reader_at}
+use Rattle.register_calls.proofs.Common.{ReaderState, IsRaised, MovesReader, reader_at}
 use Rattle.register_calls.proofs.Readers.{moves_set, open_within}
 use Rattle.register_calls.proofs.Hearing.{read_ends_as}
 use Rattle.register_calls.proofs.auditors.RegisterAuditor.end_read.Goals as goal

@@ -1,6 +1,5 @@
 use Rattle.std.proofs.Common.{◌≡◌, ℕ, ◌+◌, Some, None, sym, subst, arith}
-use Rattle.std.proofs.lemmas.Option.{slice_get_within}
-use Rattle.register_calls.specs.Judging.{IsLeast}
+use Rattle.register_calls.proofs.Common.{slice_get_within, IsLeast}
 use Rattle.register_calls.proofs.Hearing.{first_of}
 use Rattle.register_calls.proofs.auditors.RegisterAuditor.least.Goals as goal
 

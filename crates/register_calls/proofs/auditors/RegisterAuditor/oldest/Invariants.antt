@@ -1,7 +1,6 @@
 use Rattle.std.proofs.Common.{◌≡◌, ◌⊎◌, ℕ, ◌<◌, ◌≤◌, ◌-◌, Some}
 use Rattle.std.specs.Prelude.{if◌then◌else◌}
-use Rattle.register_calls.specs.declared.auditors.OpenRead.{OpenRead}
-use Rattle.register_calls.specs.Audits.{reader_at}
+use Rattle.register_calls.proofs.Common.{OpenRead, reader_at}
 use Rattle.register_calls.proofs.auditors.RegisterAuditor.oldest.Given as goal
 
 abbrev pub invariant-loop-index : goal.invariant-loop-index

@@ -1,8 +1,5 @@
 use Rattle.std.proofs.Common.{◌≡◌, ℕ, ◌-◌, if◌then◌else◌, None, Some, Option, List, refl, ap, sym, subst, ◌∙◌}
-use Rattle.register_calls.specs.declared.auditors.OpenRead.{OpenRead}
-use Rattle.register_calls.specs.declared.auditors.ReaderState.{ReaderState}
-use Rattle.register_calls.specs.Audits.{MovesReader, reader_at, KeepsRead}
-use Rattle.register_calls.specs.Judging.{IsGreater}
+use Rattle.register_calls.proofs.Common.{OpenRead, ReaderState, MovesReader, reader_at, KeepsRead, IsGreater}
 use Rattle.register_calls.proofs.Readers.{moves_set}
 use Rattle.register_calls.proofs.Hearing.{keeps_same, read_begins}
 use Rattle.register_calls.proofs.auditors.RegisterAuditor.read_begins.Goals as goal

@@ -1,6 +1,5 @@
 use Rattle.std.proofs.Common.{◌≡◌, suc, false, ap, sym, subst, ◌∙◌, arith, length-drop}
-use Rattle.register_calls.specs.declared.events.Register.{Register}
-use Rattle.register_calls.specs.Histories.{IsValue}
+use Rattle.register_calls.proofs.Common.{Register, IsValue}
 use Rattle.register_calls.proofs.ReadLemmas.{length-written}
 use Rattle.register_calls.proofs.Hearing.{write_begins_as}
 use Rattle.register_calls.proofs.auditors.RegisterAuditor.write_begins.Goals as goal

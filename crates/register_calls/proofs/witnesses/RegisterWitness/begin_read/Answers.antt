@@ -1,6 +1,5 @@
 use Rattle.std.proofs.Common.{ℕ, suc, drop, refl, ap, sym, ◌∙◌, arith}
-use Rattle.register_calls.specs.declared.auditors.ReaderState.{ReaderState}
-use Rattle.register_calls.specs.Witnesses.{begin_places}
+use Rattle.register_calls.proofs.Common.{ReaderState, begin_places}
 use Rattle.register_calls.proofs.Foretelling.{refused_is}
 use Rattle.register_calls.proofs.Hearing.{ended_is}
 use Rattle.register_calls.proofs.Remembering.{each_same, all_same, each_begins, all_begins}

@@ -1,8 +1,5 @@
 use Rattle.std.proofs.Common.{◌≡◌, ℕ, ◌≤◌, suc, ◌-◌, List, length, drop, take, refl, ap, ◌∙◌, arith}
-use Rattle.register_calls.specs.declared.events.RegisterEvent.TheVariants.{WriteBegins}
-use Rattle.register_calls.specs.declared.auditors.ReaderState.{ReaderState}
-use Rattle.register_calls.specs.Histories.{started, finished}
-use Rattle.register_calls.specs.Audits.{reader_at}
+use Rattle.register_calls.proofs.Common.{WriteBegins, ReaderState, started, finished, reader_at}
 use Rattle.register_calls.proofs.Hearing.{turn_of}
 use Rattle.register_calls.proofs.Bounds.{places_more, places_back}
 use Rattle.register_calls.proofs.Remembering.{each_same, all_same, each_next, all_next}

@@ -1,8 +1,5 @@
 use Rattle.std.proofs.Common.{ℕ, suc, Some, drop, refl, ap, sym, ◌∙◌}
-use Rattle.register_calls.specs.declared.events.RegisterEvent.TheVariants.{WriteEnds}
-use Rattle.register_calls.specs.declared.auditors.ReaderState.{ReaderState}
-use Rattle.register_calls.specs.Audits.{reader_at}
-use Rattle.register_calls.specs.Witnesses.{begin_places}
+use Rattle.register_calls.proofs.Common.{WriteEnds, ReaderState, reader_at, begin_places}
 use Rattle.register_calls.proofs.Remembering.{each_same, all_same, each_next, all_next}
 use Rattle.std.proofs.Common.{List}
 use Rattle.register_calls.proofs.Foretelling.{refused_is}

@@ -1,6 +1,5 @@
 use Rattle.std.proofs.Common.{arith, refl, subst}
-use Rattle.register_calls.specs.declared.events.Register.{Register}
-use Rattle.register_calls.specs.Histories.{WritesValue}
+use Rattle.register_recordings.proofs.Common.{Register, WritesValue}
 use Rattle.register_recordings.proofs.EventLemmas.{event_passed}
 use Rattle.register_recordings.proofs.recordings.JudgedLines.hear.Goals as goal
 

@@ -1,9 +1,8 @@
 use Rattle.std.proofs.Common.{arith, Option, ◌∷◌, reverse, sym, subst, ◌∙◌}
-use Rattle.std.proofs.lemmas.Bool.{false≢true}
+use Rattle.register_recordings.proofs.Common.{false≢true, IsMissOf}
 use Rattle.register_calls.specs.declared.events.RegisterEvent.TheVariants.{ReadEnds}
 use Rattle.register_calls.specs.Classes.{HasClass}
 use Rattle.register_recordings.specs.declared.findings.RegisterMiss.{RegisterMiss}
-use Rattle.register_recordings.specs.Misses.{IsMissOf}
 use Rattle.register_recordings.proofs.MissLemmas.{miss_comes, miss_stays, one_more}
 use Rattle.register_recordings.proofs.recordings.JudgedLines.miss_with.Goals as goal
 

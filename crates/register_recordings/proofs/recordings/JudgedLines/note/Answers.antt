@@ -1,7 +1,5 @@
 use Rattle.std.proofs.Common.{rules, sym, subst, reverse, ◌++◌, ◌∷◌, []}
-use Rattle.register_calls.specs.declared.events.RegisterEvent.{RegisterEvent}
-use Rattle.register_calls.specs.Histories.{IsWellFormed}
-use Rattle.register_recordings.specs.Misses.{AreMisses}
+use Rattle.register_recordings.proofs.Common.{RegisterEvent, IsWellFormed, AreMisses}
 use Rattle.register_recordings.proofs.MissLemmas.{all_kept, no_end_keeps}
 use Rattle.register_recordings.proofs.recordings.JudgedLines.note.Goals as goal
 

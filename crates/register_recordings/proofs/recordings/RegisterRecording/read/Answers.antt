@@ -1,8 +1,6 @@
 use Rattle.std.proofs.Common.{arith, ◌≡◌, ◌∙◌, ◌++◌, ◌∷◌, [], List, ℕ, refl, ap, sym, subst, append_assoc, rules}
-use Rattle.std.proofs.lemmas.List.{append-nil}
+use Rattle.register_recordings.proofs.Common.{append-nil, RefusesRegisterText, HasReadRegister}
 use Rattle.lists.proofs.Results.{then_err, then_ok}
-use Rattle.register_recordings.specs.Recordings.{RefusesRegisterText}
-use Rattle.register_recordings.specs.Reading.{HasReadRegister}
 use Rattle.register_recordings.proofs.recordings.RegisterRecording.read.Goals as goal
 
 -- a piece that was read in part, and then a line

@@ -1,6 +1,5 @@
 use Rattle.std.proofs.Common.{arith, ◌≡◌, ◌∙◌, ◌++◌, ◌∷◌, [], List, ℕ, ap, sym}
-use Rattle.std.proofs.lemmas.Bool.{eqb-true}
-use Rattle.std.proofs.lemmas.List.{nil_from_length}
+use Rattle.register_recordings.proofs.Common.{eqb-true, nil_from_length}
 use Rattle.register_recordings.proofs.RecordingLemmas.{end_refused, line_ended}
 use Rattle.register_recordings.proofs.recordings.RegisterRecording.read_end.Goals as goal
 
