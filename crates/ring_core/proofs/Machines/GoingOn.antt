@@ -88,7 +88,7 @@ puts-go_on_by_one shape calls c made a b goes goes' =
 abbrev count_at : Shape → Count → ℕ → Count
 count_at shape k n = record { number = n; bits = bits_after k.bits (unary_phrase k.bits (n % modulus_of shape)) }
 
--- the write of the count behind m items, and what comes next
+-- the write of the count after m items, and what comes next
 abbrev count_tree : Shape → Count → ℕ → (Count → Tree) → Tree
 count_tree shape k m next = makes (writes_in (row_bit C) (unary_phrase k.bits ((k.number + m) % modulus_of shape))) (next (count_at shape k (k.number + m)))
 
