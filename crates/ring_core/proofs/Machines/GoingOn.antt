@@ -133,7 +133,7 @@ MayPart part m n =
     (before : List Made) (a b : Access) → EndInCellRead before →
     (m < n → WritesTakeCount a → ReadsFirstDigit b → part before a b) × (n < m → ReadsFirstDigit a → WritesTakeCount b → part before a b)
 
--- what a take may do next to the tree of one of at most `wanted` items
+-- where a take may part from the tree of one of at most `wanted` items
 abbrev pub Allowed : (part : List Made → Access → Access → Type 0) → Shape → (wanted k : ℕ) → Take → Type 0
 Allowed part shape wanted k (Item seen items) = MayPart part (many shape wanted k seen) (length items)
 Allowed part shape wanted k (ItemAfterClose seen again items) = MayPart part (many shape wanted k again) (length items)
@@ -236,7 +236,7 @@ module _ (shape : Shape) (wanted : ℕ) where
         scanned k seen next (asks k next) (Read X true ∷ scan again) none.0 (none_along k seen next (asks k next) (Read X true ∷ scan again) none
         (λ before. inl (refl, rw (← append-nil (scan again)) (scanned k again next Ends [] none'.0 (none_along k again next Ends [] none' (λ before. tt)) (before ++ Read X true ∷ [])))))
 
-    -- takes, each of which may do what it does
+    -- takes, each of which parts from the tree only where it may
     pub takes_along :
         (n : ℕ) (k : Count) (xs : List Take) (end : End) → length xs < n → IsCount shape k → AreTakes shape k.number xs end →
         ((k : ℕ) (x : Take) → IsTake shape k x → Allowed part shape wanted k x) → Anyway part (calls_from shape k xs end) (takes_tree n k)

@@ -15,7 +15,7 @@ use Rattle.ring_core.proofs.Readings.TakesRead.{from_take, first_takes}
 abbrev Parting : Shape → ℕ → List Made → Access → Access → Type 0
 Parting shape wanted before a b = EndInCellRead before × TakesPart shape wanted a b
 
--- any take may do what it does
+-- any take may part from the tree where a take may
 any_allowed : (shape : Shape) (wanted k : ℕ) (x : Take) → IsTake shape k x → Allowed (Parting shape wanted) shape wanted k x
 any_allowed shape wanted k (Item seen items) (sees, batch) = λ before a b is. search (arith, batch.some, batch.few)
 any_allowed shape wanted k (ItemAfterClose seen again items) (none, sees, batch) = λ before a b is. search (arith, batch.some, batch.few)
