@@ -1,15 +1,26 @@
 -- The reads that bound a read, after one more event.
 use Rattle.std.proofs.Common.{◌≡◌, ◌≢◌, ◌⊎◌, inl, inr, ℕ, zero, suc, ◌-◌, ◌≤◌, ◌<◌, Bool, true, false, Option, Some, None, List, [], ◌∷◌, ◌++◌, length, drop, take, refl, sym, subst, ◌∙◌, arith, get_or-drop, take_at, length-append}
-use Rattle.std.specs.Prelude.{slice_get, slice_index_or, nat_lt}
+use Rattle.std.specs.Prelude.{slice_get, slice_index_or, nat_lt, if◌then◌else◌}
 use Rattle.std.proofs.lemmas.Bool.{cases_lt, lt-ltb, le-ltb}
 use Rattle.register_calls.proofs.Common.{eqb_tells, none-some, same_Some, slice_get_within, slice_get-get_or, RegisterEvent, WriteBegins, WriteEnds, ReadBegins, ReadEnds, Chain, EarlierRead, started}
-use Rattle.register_calls.proofs.Common.{finished, written_values, before_read, Scope, sees, IsLeast, IsFirstPlace, IsGreater, IsRaised, ShowsReads, fresh_chain, leaning_chain, begin_places, link_of}
-use Rattle.register_calls.proofs.Common.{IsRaisedChain, KeepsBounds}
+use Rattle.register_calls.proofs.Common.{finished, written_values, before_read, Scope, sees, IsLeast, IsFirstPlace, IsGreater, IsRaised, KeepsBounds, ShowsReads, fresh_chain, begin_places, link_of}
 use Rattle.std.proofs.lemmas.List.{drop-append-le}
+use Rattle.register_calls.specs.Chains.{leans}
 use Rattle.register_calls.specs.Reasons.{BeginsAt, IsBound}
 use Rattle.register_calls.proofs.ReadLemmas.{chosen, left, before_read-begin, before_read-other, length-written}
 use Rattle.register_calls.proofs.Keeping.{KeepsOthers}
 use Rattle.register_calls.proofs.Sets.{get_left, get_end, drop_twice}
+
+-- the chain that shows why a read that ends is of no write before its low
+abbrev pub leaning_chain : Option ℕ → (low : ℕ) → Chain → Chain
+leaning_chain any low chain = if leans any low then chain else fresh_chain
+
+-- The chain of a floor after a read that ends, which is of the write with this number or of a later one: if that write comes after the
+-- floor, the read, and after it the chain that shows why it is of none before; otherwise the chain is unchanged.
+abbrev pub IsRaisedChain : (chain leaning : Chain) (floor : ℕ) → Option ℕ → (link : ℕ → EarlierRead) → (next : Chain) → Type 0
+IsRaisedChain chain leaning floor None link next = next ≡ chain
+IsRaisedChain chain leaning floor (Some n) link next =
+    (n ≤ floor → next ≡ chain) × (floor < n → (reads : List EarlierRead) → ShowsReads leaning reads → ShowsReads next (link n ∷ reads))
 
 -- the places where writes begin: one for the first value and for each write
 pub length-places : (h : List RegisterEvent) → length (begin_places h) ≡ suc (started h)

@@ -1,11 +1,11 @@
 -- The names of other crates and of the specs that several proofs here cite, passed on from one place. Declares nothing.
 pub use Rattle.register_calls.specs.Audits.{KeepsOrder, KeepsRead, KeepsScope, MovesReader, RefusesRegisterEvent, lows, own_floors, own_lows, reader_at}
-pub use Rattle.register_calls.specs.Chains.{ShowsReads, chain_at, fresh_chain, leaning_chain}
+pub use Rattle.register_calls.specs.Chains.{ShowsReads, chain_at, fresh_chain}
 pub use Rattle.register_calls.specs.Classes.{Choice, EachAlone, HasClass, HasOrder, IsOf, IsRegular, IsSafe, NoneIsLater, Orders, Scope, Together, sees}
 pub use Rattle.register_calls.specs.Histories.{ComesInTurn, IsBeginning, IsValue, IsWellFormed, before_read, finished, has_read_open, started, written_values}
 pub use Rattle.register_calls.specs.Intervals.{Chooses, HasChoice, IsReadFrom, IsWriteFrom, MayBeOf, WriteHasEnded, placed_event}
 pub use Rattle.register_calls.specs.Judging.{HasNone, IsFirstPlace, IsGreater, IsLeast, IsRaised, still}
-pub use Rattle.register_calls.specs.Witnesses.{IsRaisedChain, IsRaisingLink, KeepsBounds, begin_places, link_of}
+pub use Rattle.register_calls.specs.Witnesses.{IsRaisingLink, KeepsBounds, begin_places, link_of}
 pub use Rattle.register_calls.specs.declared.auditors.FoundWrites.{FoundWrites}
 pub use Rattle.register_calls.specs.declared.auditors.OpenRead.{OpenRead}
 pub use Rattle.register_calls.specs.declared.auditors.ReaderState.{ReaderState}

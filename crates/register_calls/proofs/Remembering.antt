@@ -1,12 +1,12 @@
 -- What a witness keeps of a history, after one more event: by the lists of readers and of their chains.
 use Rattle.std.proofs.Common.{◌≡◌, inl, inr, ℕ, Bool, true, false, Option, Some, None, List, [], ◌∷◌, length, drop, refl, ap, sym, subst, ◌∙◌, arith}
 use Rattle.register_calls.proofs.Common.{option_map, eqb_tells, Register, RegisterEvent, ReadBegins, ReadEnds, OpenRead, ReaderState, FoundWrites, Chain, EarlierRead, finished, written_values}
-use Rattle.register_calls.proofs.Common.{before_read, Scope, Together, EachAlone, sees, IsFirstPlace, IsGreater, IsRaised, IsRaisedChain, IsRaisingLink, KeepsBounds, begin_places, link_of}
+use Rattle.register_calls.proofs.Common.{before_read, Scope, Together, EachAlone, sees, IsFirstPlace, IsGreater, IsRaised, IsRaisingLink, KeepsBounds, begin_places, link_of}
 use Rattle.register_calls.specs.Audits.{StartsRead, EndsRead, KeepsHistory, KeepsRead, KeepsScope, lows, own_floors, own_lows, reader_at}
-use Rattle.register_calls.specs.Chains.{IsLinkedChain, KeepsChain, RaisesChain, ShowsReads, chain_at, fresh_chain, leaning_chain}
+use Rattle.register_calls.specs.Chains.{IsLinkedChain, KeepsChain, RaisesChain, ShowsReads, chain_at, fresh_chain}
 use Rattle.register_calls.proofs.Hearing.{FirstWrites}
 use Rattle.register_calls.proofs.Readers.{lows_others, own_lows_others}
-use Rattle.register_calls.proofs.Bounds.{begins_kept, bounds_begin, bounds_end, bounds_next, bounds_same}
+use Rattle.register_calls.proofs.Bounds.{IsRaisedChain, leaning_chain, begins_kept, bounds_begin, bounds_end, bounds_next, bounds_same}
 
 -- a floor that is raised, by the read that raises it
 pub raised_by :

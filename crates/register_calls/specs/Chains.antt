@@ -1,5 +1,5 @@
 -- The first reads that a reason reports, and lists of them.
-use Rattle.std.specs.Prelude.{◌≡◌, ◌≢◌, ◌<◌, ℕ, zero, suc, nat_lt, if◌then◌else◌, Bool, true, false, Option, Some, None, List, [], ◌∷◌, slice_index_or}
+use Rattle.std.specs.Prelude.{◌≡◌, ◌≢◌, ◌<◌, ℕ, zero, suc, nat_lt, Bool, true, false, Option, Some, None, List, [], ◌∷◌, slice_index_or}
 use Rattle.register_calls.specs.declared.reasons.EarlierRead.{EarlierRead}
 use Rattle.register_calls.specs.declared.chains.Chain.{Chain}
 
@@ -33,10 +33,6 @@ chain_at chains i = slice_index_or chains i fresh_chain
 abbrev pub leans : Option ℕ → (low : ℕ) → Bool
 leans None low = false
 leans (Some n) low = nat_lt n low
-
--- the chain that shows why a read that ends is of no write before its low
-abbrev pub leaning_chain : Option ℕ → (low : ℕ) → Chain → Chain
-leaning_chain any low chain = if leans any low then chain else fresh_chain
 
 -- a chain after a read that raised its floor, and which depends on another
 abbrev pub IsLinkedChain : (chain leaning : Chain) → Option EarlierRead → (next : Chain) → Type 0

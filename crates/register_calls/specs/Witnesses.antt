@@ -57,13 +57,6 @@ pub record RemembersRegister {W R P C : Type 0} (window : W → List ℕ) (state
 abbrev pub link_of : (places : List ℕ) (base count reader value number : ℕ) → EarlierRead
 link_of places base count i v n = record { reader = i; ended = count; value = v; written = slice_index_or places (n - base) 0 }
 
--- The chain of a floor after a read that ends, which is of the write with this number or of a later one: if that write comes after the
--- floor, the read, and after it the chain that shows why it is of none before; otherwise the chain is unchanged.
-abbrev pub IsRaisedChain : (chain leaning : Chain) (floor : ℕ) → Option ℕ → (link : ℕ → EarlierRead) → (next : Chain) → Type 0
-IsRaisedChain chain leaning floor None link next = next ≡ chain
-IsRaisedChain chain leaning floor (Some n) link next =
-    (n ≤ floor → next ≡ chain) × (floor < n → (reads : List EarlierRead) → ShowsReads leaning reads → ShowsReads next (link n ∷ reads))
-
 -- the read that ends, if it raises the floor
 abbrev pub IsRaisingLink : (floor : ℕ) → Option ℕ → (link : ℕ → EarlierRead) → Option EarlierRead → Type 0
 IsRaisingLink floor None link raising = raising ≡ None

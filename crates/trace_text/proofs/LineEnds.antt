@@ -9,8 +9,13 @@ use Rattle.bits_core.specs.declared.events.Bit.TheVariants.{S, R, X, Cell}
 use Rattle.trace_text.specs.TraceText.{side_text, act_text, bit_text, value_text, batch_text, batches_text, event_line, shape_line}
 use Rattle.line_parts.specs.LineEnds.{HasNoFeed, EndsAtFeed}
 use Rattle.line_parts.proofs.LineFeeds.{IsOther, feed_nowhere, feed_once, no_feed_digits, no_feed_text}
-use Rattle.trace_text.specs.TraceLines.{IsShortLine}
+use Rattle.trace_text.specs.declared.cuts.TheConstants.{LINE_LIMIT}
 use Rattle.trace_text.proofs.TraceFields.{HasIndices}
+
+-- a complete line, with no more bytes than the longest line of a trace has
+pub record IsShortLine (bytes : List ℕ) : Type 0 where
+  pub ends : EndsAtFeed bytes
+  pub short : length ends.front < LINE_LIMIT
 
 -- ---- parts of lines
 

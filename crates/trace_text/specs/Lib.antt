@@ -2,6 +2,5 @@ pub mod Faults
 pub mod TraceText
 pub mod Trace
 pub mod TraceReading
-pub mod TraceLines
 pub mod TraceAudits
 pub mod Laws

@@ -1,6 +1,7 @@
 use Rattle.std.proofs.Common.{◌≡◌, ℕ, suc, Bool, drop, ap, sym, subst, ◌∙◌, arith}
 use Rattle.std.specs.Prelude.{if◌then◌else◌}
-use Rattle.register_calls.proofs.Common.{ReaderState, Chain, reader_at, chain_at, fresh_chain, leaning_chain, IsRaisingLink, begin_places, link_of}
+use Rattle.register_calls.proofs.Common.{ReaderState, Chain, reader_at, chain_at, fresh_chain, IsRaisingLink, begin_places, link_of}
+use Rattle.register_calls.proofs.Bounds.{leaning_chain}
 use Rattle.register_calls.proofs.Hearing.{first_writes}
 use Rattle.register_calls.proofs.Remembering.{each_ends, all_ends}
 use Rattle.register_calls.proofs.witnesses.RegisterWitness.end_read.Goals as goal
