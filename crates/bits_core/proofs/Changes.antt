@@ -1,10 +1,12 @@
 -- How what an event may do changes with one more event at the end.
-use Rattle.std.proofs.Common.{◌≡◌, ℕ, suc, Bool, true, false, ◌||◌, Option, Some, None, List, ◌∷◌, ◌++◌, refl, arith, append-nil, []}
+use Rattle.std.proofs.Common.{◌≡◌, ℕ, suc, Bool, true, false, ◌||◌, Option, Some, None, List, ◌∷◌, ◌++◌, refl, [], ap, ◌∙◌, cond, arith, append-nil}
 use Rattle.std.proofs.lemmas.Bool.Decides.{nat_tests}
 use Rattle.bits_core.proofs.Common.{slice_get, is_some, if◌then◌else◌, unwrap_or, or_parts, false≢true, Side, Bit, Act, Event, Shape, writer, doer, is_by, same_side, same_bit}
-use Rattle.bits_core.proofs.Common.{begun_access, write_of, value_written}
+use Rattle.bits_core.proofs.Common.{begun_by, begun_access, write_of, value_written}
 use Rattle.std.specs.Option.{option_to_list}
-use Rattle.bits_core.specs.History.{has_event, open_write, writes_begun, writes_ended, last_value, held, held_at_begin, is_overlapped}
+use Rattle.std.specs.Prelude.{option_and_then}
+use Rattle.std.specs.List.{cons_option}
+use Rattle.bits_core.specs.History.{has_event, last_event, before_last, open_write, writes_begun, writes_ended, last_value, held, held_at_begin, is_overlapped}
 use Rattle.bits_core.proofs.StepLemmas.{EachMayFollow}
 use Rattle.bits_core.proofs.Histories.{before_last-push, open_access-push, last_value-push, after_last-at, after_last-not}
 use Rattle.std.proofs.lemmas.List.Elements.{filter_map-append}
@@ -40,7 +42,20 @@ writes_begun-none b (x ∷ h) by none =
 -- the writes of a bit that began are those that ended, and the one that is open
 pub writes_begun-parts : (b : Bit) (h : List Event) → AllByDoer h → writes_begun b h ≡ writes_ended b h ++ option_to_list (open_write b h)
 writes_begun-parts b [] by = refl
-writes_begun-parts b (x ∷ h) by = search (arith, writes_begun-none, not_written, writes_begun-parts b h by.1)
+writes_begun-parts b (x ∷ h) by =
+    let w : Side = writer b in
+    elim (has_event w h) as (λ t. has_event w h ≡ t → cons_option (write_of b x) (writes_begun b h) ≡ writes_begun b (cond t (x ∷ before_last w h) []) ++ option_to_list (value_written b (option_and_then begun_by (cond t (last_event w h) (cond (is_by w x) (Some x) None))))) [
+      | true ↦ λ some. elim (write_of b x) as (λ o. cons_option o (writes_begun b h) ≡ cons_option o (writes_ended b h) ++ option_to_list (open_write b h)) [
+        | None ↦ writes_begun-parts b h by.1
+        | Some v ↦ ap (λ t. v ∷ t) (writes_begun-parts b h by.1)
+      ]
+      | false ↦ λ none.
+          ap (λ t. cons_option (write_of b x) t) (writes_begun-none b h by.1 none) ∙
+          elim (is_by w x) as (λ t. is_by w x ≡ t → cons_option (write_of b x) [] ≡ option_to_list (value_written b (option_and_then begun_by (cond t (Some x) None)))) [
+            | true ↦ λ e. elim (write_of b x) as (λ o. cons_option o [] ≡ option_to_list o) [ None ↦ refl | Some v ↦ refl ]
+            | false ↦ λ e. ap (λ o. cons_option o []) (not_written b x.bit x.side x.act by.0 e)
+          ] refl
+    ] refl
 
 -- the last of some values, with perhaps one more
 pub last_value-maybe : (v : Bool) (ws : List Bool) (o : Option Bool) → last_value v (ws ++ option_to_list o) ≡ unwrap_or o (last_value v ws)

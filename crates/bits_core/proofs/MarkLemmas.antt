@@ -1,5 +1,5 @@
 -- Marks, maintained event by event.
-use Rattle.std.proofs.Common.{◌≡◌, ◌≢◌, ℕ, zero, suc, ◌+◌, ◌<◌, ◌≤◌, ◌||◌, Bool, true, false, cond, Option, Some, None, List, ◌∷◌, ◌++◌, length, get_or, take, refl, ap, sym, subst, ◌∙◌, arith, []}
+use Rattle.std.proofs.Common.{◌≡◌, ◌≢◌, ℕ, zero, suc, ◌+◌, ◌<◌, ◌≤◌, ◌||◌, not, Bool, true, false, cond, Option, Some, None, List, ◌∷◌, ◌++◌, length, get_or, take, refl, ap, sym, subst, ◌∙◌, arith, []}
 use Rattle.bits_core.proofs.Common.{set, if◌then◌else◌, is_some, unwrap_or, none-some, take-length, Side, Bit, Act, ReadBegin, ReadEnd, WriteBegin, WriteEnd, Access, Read, Write, Event, Shape}
 use Rattle.bits_core.proofs.Common.{open_access, open_write, held, held_at_begin, is_overlapped, IsLawful, FitsOpen, MayFollow}
 use Rattle.std.proofs.lemmas.Bool.{false≢true, or_parts, and_parts, ltb-true}
@@ -76,6 +76,9 @@ settled-is shape h s b marks are reads room = grind (arith, open_right shape h s
 
 pub answer-is : (s : Side) (b : Bit) (h : List Event) (due : Option Bool) (asked : Bool) → due ≡ settled s b h → unwrap_or due asked ≡ (if is_overlapped s b h then asked else held_at_begin s b h)
 answer-is s b h due asked is = grind arith
+
+pub overlapped-is : (s : Side) (b : Bit) (h : List Event) (due : Option Bool) (none : Bool) → due ≡ settled s b h → is_some due ≡ not none → none ≡ is_overlapped s b h
+overlapped-is s b h due none is some = grind arith
 
 -- ---- one more event
 

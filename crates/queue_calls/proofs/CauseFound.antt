@@ -1,7 +1,7 @@
 -- Nothing contradicts an event after a past exactly when the event can be counted.
 use Rattle.std.proofs.Common.{◌≡◌, ◌↔◌, ◌⊎◌, inl, inr, ℕ, suc, ◌+◌, ◌-◌, ◌<◌, ◌≤◌, nat_lt, Bool, true, false, ◌==◌, not, ◌&&◌, Some, None, List, [], ◌∷◌, ◌++◌, map, length, take, drop, reverse, refl, sym, ap, subst, ◌∙◌, arith, length-append, append_assoc, append-nil}
 use Rattle.std.proofs.lemmas.Bool.{false_from_ne_true, or_from, or_parts, not-false, not_from_true, ltb-true, ltb-false, lt-ltb, le-ltb, eqb-true, eqb-false, eq-eqb, ne_eqb, cond-true, cases_Bool}
-use Rattle.queue_calls.proofs.Common.{none-some, Capacity, LacksRoom, NoCall, APut, ATake, Sides, sides, MovesSides, IsProper, MayHold, AreNext, CanEndPut, CanEndTake, offered_by, asked_by}
+use Rattle.queue_calls.proofs.Common.{none-some, Capacity, Unbounded, Between, LacksRoom, NoCall, APut, ATake, Sides, sides, MovesSides, IsProper, MayHold, AreNext, CanEndPut, CanEndTake, offered_by, asked_by}
 use Rattle.queue_calls.proofs.Common.{call_of_put, call_of_take, sides_of, Kept, kept, without, FoundFewer, Counts, AreCounted, Cause, Offered, PutTurn, Free, Offers, Late, TakeTurn, Rests, Waits}
 use Rattle.queue_calls.specs.Calls.{Event, PutBegin, PutEnd, CloseBegin, CloseEnd, TakeBegin, TakeEnd, Reply, Passed, Lacked, Short, Nothing, Shut, passed, is_shut, CanReply, lacked_by, IsLinearizable}
 use Rattle.queue_calls.specs.Reasons.{line_behind, stored_at, has_ended, has_told, before_put, before_take, offers, stored, wanted, n_of, k_of, coming, can_hold, can_lack, stored_cause, full_cause, put_short_cause, not_taken_cause, fewer_cause, items_cause, empty_cause, take_short_cause, closed_cause, cause_of, CauseIsReason, FaultHasACause, items_of}
@@ -14,6 +14,11 @@ use Rattle.queue_calls.proofs.Ends.TakeBegins.{keeps_nothing}
 use Rattle.queue_calls.proofs.Replies.{fewer_told, found_fewer, lacks_more, lacks_room, may_lack_more, shut_is}
 use Rattle.queue_calls.proofs.TurnLemmas.{last_turn, same_turns}
 pub use Rattle.queue_calls.proofs.CountedHistories.{stands_linear as standing}
+
+-- a queue lacks room for as many, by the sum
+lacks_as : (capacity : Capacity) (a b c d : ℕ) → a + b ≡ c + d → LacksRoom capacity a b → LacksRoom capacity c d
+lacks_as Unbounded a b c d e l = l
+lacks_as (Between full most) a b c d e l = omega (arith, e, l)
 
 -- what was stored before the take is no more than what is stored
 pub stored_grows : (past : List Event) → n_of (before_take past) ≤ n_of past
@@ -91,7 +96,18 @@ module _ (capacity : Capacity) (past : List Event) (k : Kept) (a : Agrees past k
   some_room :
       (n inside count : ℕ) → k.put ≡ Offers n inside →
       ((nat_lt count (length (offers past)) && not (can_lack capacity (n_of past - k_of (before_put past)) (suc count))) ≡ false) ↔ (count < n → LacksRoom capacity inside (suc count))
-  some_room n inside count is = grind (arith, as_put, most_inside, nat_lt, length, lt-ltb, can_lack_tells, not-false, and_of, not, and_off, ltb-true, not_from_true)
+  some_room n inside count is =
+      let f = as_put past k a (Offers n inside) is in
+      let most : ℕ = n_of past - k_of (before_put past) in
+      let same : most + suc count ≡ inside + suc count = omega (arith, most_inside n inside is) in (
+        λ e. λ l.
+            let fewer : nat_lt count (length (offers past)) ≡ true = lt-ltb count (length (offers past)) (omega (arith, l, f.0)) in
+            lacks_as capacity most (suc count) inside (suc count) same
+            ((can_lack_tells capacity most (suc count)).0 (not-false (can_lack capacity most (suc count)) (and_of (nat_lt count (length (offers past))) (not (can_lack capacity most (suc count))) e fewer))),
+        λ h. and_off (nat_lt count (length (offers past))) (not (can_lack capacity most (suc count))) (λ e.
+            let fewer : count < n = omega (arith, ltb-true count (length (offers past)) e, f.0) in
+            not_from_true (can_lack capacity most (suc count)) ((can_lack_tells capacity most (suc count)).1 (lacks_as capacity inside (suc count) most (suc count) (sym same) (h fewer)))),
+      )
 
   -- if the put says why
   pub some_lack :

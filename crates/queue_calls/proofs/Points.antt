@@ -63,4 +63,4 @@ one_less capacity h e (t, r) = last_event capacity h e (λ z. IsLinearizable cap
 -- and so after each prefix
 pub beginning : (capacity : Capacity) (h rest : List Event) → IsLinearizable capacity (h ++ rest) → IsLinearizable capacity h
 beginning capacity h [] l = subst (IsLinearizable capacity) (append-nil h) l
-beginning capacity h (e ∷ rest) l = search (arith, one_less, append_assoc, beginning capacity (h ++ e ∷ []) rest (subst (IsLinearizable capacity) (sym (append_assoc h (e ∷ []) rest)) l))
+beginning capacity h (e ∷ rest) l = search (arith, one_less, beginning capacity (h ++ e ∷ []) rest (subst (IsLinearizable capacity) (sym (append_assoc h (e ∷ []) rest)) l))

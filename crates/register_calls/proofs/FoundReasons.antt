@@ -1,8 +1,9 @@
 -- What contradicts a read that ends now, by what a witness keeps.
-use Rattle.std.proofs.Common.{◌≡◌, inl, ℕ, ◌-◌, ◌≤◌, Bool, Option, Some, None, List, [], ◌∷◌, length, drop, refl, ap, sym, subst, arith, get_or-drop}
+use Rattle.std.proofs.Common.{◌≡◌, inl, ℕ, ◌+◌, ◌-◌, ◌≤◌, Bool, Option, Some, None, List, [], ◌∷◌, length, drop, refl, ap, sym, subst, ◌∙◌, arith, get_or, get_or-drop}
+use Rattle.std.specs.Prelude.{slice_get}
 use Rattle.register_calls.proofs.Common.{slice_index_or, option_map, slice_get_within, slice_get-get_or, Register, RegisterEvent, WriteBegins, WriteEnds, ReadBegins, ReadEnds, Class, Safe, Regular}
 use Rattle.register_calls.proofs.Common.{AtomicByReader, Atomic, OpenRead, ReaderState, FoundWrites, Chain, EarlierRead, IsValue, IsWellFormed, started, finished, written_values, before_read, Scope}
-use Rattle.register_calls.proofs.Common.{Together, EachAlone, IsOf, HasOrder, HasClass, IsLeast, IsFirstPlace, KeepsOrder, KeepsScope, lows, own_floors, own_lows, reader_at, ShowsReads, chain_at}
+use Rattle.register_calls.proofs.Common.{Together, EachAlone, IsOf, HasOrder, HasClass, HasNone, IsLeast, IsFirstPlace, KeepsOrder, KeepsScope, lows, own_floors, own_lows, reader_at, ShowsReads, chain_at}
 use Rattle.register_calls.specs.declared.reasons.MissReason.TheVariants.{Held, NotWritten, Inverted}
 use Rattle.register_calls.specs.Reasons.{IsHeldFrom, IsInverted, IsMissReason}
 use Rattle.register_calls.specs.Witnesses.{last_end, low_chain}
@@ -20,8 +21,10 @@ found_is_of first l h i v n began least = grind (arith, length-written, slice_ge
 module _ (s : Scope) (first i v l m : ℕ) (h : List RegisterEvent) (floor : ℕ → ℕ) (low : ℕ → Option ℕ) (mine : low i ≡ Some l) (began : finished (before_read i h) ≤ l) where
   -- the read is of this write, in an order that continues
   order_more : (n : ℕ) → IsLeast (written_values first h) l v n → KeepsOrder s first h floor low → HasOrder s first (ReadEnds i v ∷ h)
-  order_more n least k =
-      grind (arith, changed k.of (length h) n, length h, Orders-more s first k.of h i v n k.orders (found_is_of first l h i v n began least) (NoneIsLater-more s k.of i l n (before_read i h) least.0 (k.reached_before i l mine)), found_is_of first l h i v n began least, NoneIsLater-more s k.of i l n (before_read i h) least.0 (k.reached_before i l mine))
+  order_more n least k = (
+    changed k.of (length h) n,
+    Orders-more s first k.of h i v n k.orders (found_is_of first l h i v n began least) (NoneIsLater-more s k.of i l n (before_read i h) least.0 (k.reached_before i l mine)),
+  )
 
   -- no order continues: the read is of no write from its low on, but of one before
   inverted_by :
@@ -31,6 +34,11 @@ module _ (s : Scope) (first i v l m : ℕ) (h : List RegisterEvent) (floor : ℕ
   inverted_by held found chain at any keeps has lacks shown = grind (arith, order_more)
 
 module _ (r : Register) (h : List RegisterEvent) (i v base : ℕ) (found : FoundWrites) (firsts : FirstWrites r.first h i v base found) where
+  none_since : found.of_any ≡ None → HasNone (written_values r.first h) (finished (before_read i h)) v
+  none_since none =
+      subst (λ (n : ℕ). HasNone (written_values r.first h) n v) firsts.began
+      (subst (λ (o : Option ℕ). IsFirstPlace (written_values r.first h) found.read.before v o) none firsts.any)
+
   -- none of the writes that the read may be of wrote the value
   pub not_written_there :
       (c : Class) (begun : ℕ) → found.of_any ≡ None → begun ≡ started h → (found.read.before ≡ begun → ⊥) → IsValue r v → HasClass c r h → (HasClass c r (ReadEnds i v ∷ h) → ⊥) →
@@ -82,4 +90,18 @@ pub held_there :
     (c : Class) (r : Register) (h : List RegisterEvent) (i v base begun value : ℕ) (found : FoundWrites) (kept : List ℕ) (since : Option ℕ) → FirstWrites r.first h i v base found → found.of_any ≡ None →
     found.read.before ≡ begun → begun ≡ started h → IsWellFormed r h → kept ≡ drop base (written_values r.first h) → value ≡ slice_index_or kept (begun - base) 0 → since ≡ last_end h →
     IsMissReason c r h i v (Held value since)
-held_there c r h i v base begun value found kept since firsts none last count formed values is ended = grind (arith, finished-before_read, finished-started, get_or-drop, held_from, length-written, slice_get-get_or)
+held_there c r h i v base begun value found kept since firsts none last count formed values is ended =
+    let written = written_values r.first h in
+    let quiet : finished (before_read i h) ≡ started h = sym firsts.began ∙ last ∙ count in
+    let low : base ≤ begun = let p = firsts.kept in omega (arith, p, last) in
+    let long = length-written r.first h in
+    let number : base + (begun - base) ≡ started h = omega (arith, low, count) in
+    let same : value ≡ get_or written (started h) 0 =
+    is ∙ ap (λ (xs : List ℕ). get_or xs (begun - base) 0) values ∙ get_or-drop base written (begun - base) 0 ∙ ap (λ (n : ℕ). get_or written n 0) number in
+    let there : slice_get written (started h) ≡ Some value = slice_get-get_or written (started h) 0 (omega (arith, long)) ∙ ap Some (sym same) in
+    let all : finished h ≡ started h = let p = finished-before_read i h in let q = finished-started r h formed in omega (arith, p, q, quiet) in (
+      quiet,
+      there,
+      λ other. none_since r h i v base found firsts none (started h) (omega (arith, quiet)) (there ∙ ap Some other),
+      subst (λ (o : Option ℕ). IsHeldFrom h o) (sym ended) (held_from r h formed all),
+    )

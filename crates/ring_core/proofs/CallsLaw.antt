@@ -69,7 +69,11 @@ module _ (shape : Shape) (h : List Event) (puts : Puts) (takes : Takes) (run : I
   take_number w = grind (arith, take_tally shape first_count takes.takes takes.end w)
 
   pub within : IsWithin shape h puts takes
-  within t = search (arith, puts_begun_are, takes_begun_are)
+  within t =
+      let (few, room) = law.within t in
+      let p : ℕ = clock P h t in
+      let c : ℕ = clock C h t in
+      (omega (arith, few, puts_begun_are p, takes_begun_are c), omega (arith, room, puts_begun_are p, takes_begun_are c))
 
   -- ---- the ranges
 

@@ -11,7 +11,9 @@ use Rattle.ring_core.proofs.Machines.TakeCalls.{fit-push, words_read-push}
 use Rattle.ring_core.proofs.OverSpans.RingOfSpans.{LawOfSpans}
 use Rattle.ring_core.proofs.Recorded.RecordedRuns.{recorded_are_counted}
 use Rattle.ring_core.proofs.RingHolds.{law_of_spans}
-use Rattle.ring_core.specs.Recorded.{RecordedIsLinearizable}
+use Rattle.bits_core.specs.Shape.{capacity_of}
+use Rattle.queue_calls.specs.Queue.{exactly}
+use Rattle.ring_core.specs.Recorded.{recorded, RecordedIsLinearizable}
 use Rattle.ring_core.specs.CountWrites.{CountsAreWritten, CountsShowNumbers}
 use Rattle.ring_core.proofs.Common.{IsLinearizableRun, ClosedStays}
 use Rattle.ring_core.proofs.Machines.OneWordMore.{ItemsFitByOneMore, WordsByOneMore}
@@ -104,7 +106,9 @@ pub ring_is_linearizable : InEveryRun IsLinearizableRun
 ring_is_linearizable = λ shape h puts takes run. linearizable shape h puts takes run (law_of_spans shape h puts takes run)
 
 pub recorded_is_linearizable : RecordedIsLinearizable
-recorded_is_linearizable = grind (arith, counted_is_linearizable, recorded_are_counted, law_of_spans)
+recorded_is_linearizable = λ shape offers wants h puts takes run offered some wanted.
+    counted_is_linearizable (exactly (capacity_of shape)) (recorded shape offers wants h puts takes) (shape.has_cells, omega arith)
+    (recorded_are_counted shape offers wants h puts takes run (law_of_spans shape h puts takes run) some offered wanted)
 
 pub closed_stays : ClosedStays
 closed_stays = closed-stays ring_law

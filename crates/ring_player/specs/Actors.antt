@@ -14,7 +14,6 @@ use Rattle.ring_core.specs.ConsumerCalls.{ConsumerStands, ends_closed}
 use Rattle.ring_core.specs.ConsumerState.{ConsumerState, is_taking}
 use Rattle.ring_core.specs.ProducerCalls.{ProducerStands}
 use Rattle.ring_core.specs.ProducerState.{ProducerState, Call, Put, Close, call_of}
-use Rattle.ring_core.specs.declared.replies.TakeBatchReply.TheVariants as taken
 use Rattle.ring_core.specs.declared.replies.BatchReply.{BatchReply}
 use Rattle.ring_core.specs.declared.replies.BatchReply.TheVariants as reply
 use Rattle.bits_core.specs.Shape.{width_of}

@@ -84,7 +84,6 @@ pub(crate) struct PutActor<'a> {
 
 impl<'a> PutActor<'a> {
     /// An actor that has made no access.
-    #[tactic(auto, using(crate::proofs::Puttings::new_putting))]
     pub fn new(script: ScriptRef<'a>) -> Self
         ensures script { content_of result.script ≡ content_of script.entry }
         ensures stands { PutActorStands (content_of script.entry) result.producer

@@ -42,7 +42,6 @@ pub(crate) struct TakeActor<'a, T: Store<u64>> {
 
 impl<'a, T: Store<u64>> TakeActor<'a, T> {
     /// An actor that has made no access. What it takes is added to this store, which is empty.
-    #[tactic(auto, using(crate::proofs::Takings::new_taking))]
     pub fn new(taken: T, script: ScriptRef<'a>) -> Self
         requires { T.items taken ≡ [] }
         ensures script { content_of result.script ≡ content_of script.entry }

@@ -79,7 +79,6 @@ impl<'a, A: Allocator + Copy> World<'a, Vec<Event, A>, Vec<u64, A>> {
 
 impl<'a, E: Store<Event>, T: Store<u64>> World<'a, E, T> {
     /// A world that has made no step. Its history and the items taken are added to these stores, which are empty.
-    #[tactic(auto, using(crate::proofs::WorldParts::new_world))]
     pub fn over(script: ScriptRef<'a>, events: E, taken: T) -> Self
         requires no_events { E.items events ≡ [] }
         requires none_taken { T.items taken ≡ [] }
@@ -258,7 +257,6 @@ impl<'a, E: Store<Event>, T: Store<u64>> World<'a, E, T> {
     ///
     /// `OutOfMemory` leaves everything unchanged: the history had no room for the event, or the items taken had none for
     /// as many more as the take asks for, which is requested whenever an access of the consumer ends.
-    #[tactic(auto, using(crate::proofs::WorldParts::letters_of))]
     pub fn step(&mut self, side: Side) -> Result<bool, PlayFault>
         ensures script { self.new.script ≡ self.old.script }
         ensures ok { IfOk result (λ moved. IsMove self.old.script side moved self.old.history self.new.history) }
@@ -298,7 +296,6 @@ impl<'a, E: Store<Event>, T: Store<u64>> World<'a, E, T> {
 }
 
 /// Makes this many steps of one side.
-#[tactic(auto, using(std::proofs::Common::append_assoc, std::proofs::lemmas::List::replicate_more))]
 fn repeat<E: Store<Event>, T: Store<u64>>(
     world: &mut World<'_, E, T>,
     side: Side,
@@ -366,7 +363,6 @@ pub struct Report<'a, E: Store<Event>, T: Store<u64>> {
 /// Plays a script: a new world, one step for each letter of its schedule, and the report on it.
 ///
 /// In use: `uses::plays::takes_of`.
-#[tactic(auto, using(std::proofs::lemmas::List::take_all))]
 pub fn play<'a, A: Allocator + Copy, B: Allocator>(
     alloc: A,
     script: &'a Script<B>,

@@ -57,7 +57,7 @@ module _ (shape : Shape) where
   row_found :
       (bits : Bit → Bool) (c : Count) (items : List ℕ) (look : Finding) → RowIs C bits c.bits →
       RowIs C (after bits (finding_phrase look ++ items_phrase shape c items)) (count_after shape c (Item 0 items)).bits
-  row_found bits c items look is = search (rules, after, look_spares, row_both, row_items, row_spared)
+  row_found bits c items look is = search (rules, look_spares, row_both, row_items, row_spared)
 
   row_take : (bits : Bit → Bool) (c : Count) (x : Take) → RowIs C bits c.bits → RowIs C (after bits (take_phrase shape c x)) (count_after shape c x).bits
   row_take bits c (Item seen items) is = row_found bits c items (Once seen) is

@@ -20,7 +20,6 @@ pub type NewTable<K, A> = Result<
 /// The table of the words of a ring's bits, and its one seat, with nothing put. It takes memory for one word for each bit, and
 /// for 16 words after the close bit, each count and each cell, which keep these apart. An error is returned only if the
 /// allocator refused that. For example, a new `FlickerRing` is this table.
-#[tactic(auto, using(crate::proofs::Moves::opens))]
 pub fn flicker_table<A: Allocator + Copy>(alloc: A, shape: Shape) -> NewTable<Flickering, A>
     ensures { IfOk result (λ t. IsNewTable shape (count_of_words shape) t.0.shared.key t.0.shared.table_id
         t.1.table_id t.1.me) }

@@ -105,7 +105,6 @@ impl<'a, K: WordKind> Words<'a, K> {
     }
 
     // Splits the joint seat in two.
-    #[tactic(auto, using(crate::proofs::Moves::splits))]
     pub(crate) fn part(&self, seat: &mut Seat<(), View>) -> Seat<(), View>
         requires own { (seat.old.table_id ≡ self.now.id) × (seat.old.me.0.puts ≡ true) × (seat.old.me.0.takes ≡ true) }
         ensures putter { (seat.new.table_id ≡ seat.old.table_id) ×
@@ -126,7 +125,6 @@ impl<'a, K: WordKind> Words<'a, K> {
     }
 
     // Joins the two seats, and the joint seat learns the history.
-    #[tactic(auto, using(crate::proofs::Moves::joins))]
     pub(crate) fn rejoin(&self, seat: &mut Seat<(), View>, other: Seat<(), View>)
         requires own { (seat.old.table_id ≡ self.now.id) × (other.table_id ≡ self.now.id) × (other.me.1 ≡ []) }
         requires sides { (seat.old.me.0.puts ≡ true) × (other.me.0.takes ≡ true) }

@@ -200,7 +200,7 @@ same_items shape c (x ∷ xs) (y ∷ ys) a b made t is p q l r both reach =
 pub items-are_read : ItemsAreRead
 items-are_read shape h a b p q =
     let both : BeginBoth P (length (subhistory P h)) (put_program shape a) (put_program shape b) = grind (arith, begin_both) in
-    search (arith, same_items, length, first_is_count)
+    search (arith, same_items, first_is_count)
 
 -- ---- complete calls that others begin with
 

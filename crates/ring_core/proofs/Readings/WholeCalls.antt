@@ -32,11 +32,11 @@ all-counted shape c [] end t is are l = refl
 all-counted shape c (Item seen items ∷ takes) end t is ((sees, batch), are) l =
     let x : Take = Item seen items in
     let parts = two_parts (take_phrase shape c x) (take_phrases shape (count_after shape c x) takes) t l in
-    search (arith, counted_first, counted_is_count, all-counted shape (count_after shape c x) takes end (t - events_in (take_phrase shape c x)) (counted_is_count shape c items) are parts.1)
+    search (arith, counted_first, all-counted shape (count_after shape c x) takes end (t - events_in (take_phrase shape c x)) (counted_is_count shape c items) are parts.1)
 all-counted shape c (ItemAfterClose seen again items ∷ takes) end t is ((none, sees, batch), are) l =
     let x : Take = ItemAfterClose seen again items in
     let parts = two_parts (take_phrase shape c x) (take_phrases shape (count_after shape c x) takes) t l in
-    search (arith, counted_first, counted_is_count, all-counted shape (count_after shape c x) takes end (t - events_in (take_phrase shape c x)) (counted_is_count shape c items) are parts.1)
+    search (arith, counted_first, all-counted shape (count_after shape c x) takes end (t - events_in (take_phrase shape c x)) (counted_is_count shape c items) are parts.1)
 all-counted shape c (Empty seen ∷ takes) end t is (none, are) l =
     let x : Take = Empty seen in
     let next : Count = count_after shape c x in

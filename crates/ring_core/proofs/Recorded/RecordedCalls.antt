@@ -37,10 +37,13 @@ pub record CallsBehind (most : ℕ) (all : List Span) (tell : ℕ → List calls
   pub number : n ≡ length passed
 
 -- after none
+spans_first : (most : ℕ) (all : List Span) → AllProper most all → SpansBehind most all 0 [] all
+spans_first most all proper = grind (arith, stands_at)
+
 abbrev calls_first :
     (most : ℕ) (all : List Span) (tells : ℕ → ℕ → List calls.Event) → AllProper most all → CallsBehind most all (tells 0) 0 [] all tells 0
 calls_first most all tells proper = record {
-  spans_are = grind (arith, stands_at);
+  spans_are = spans_first most all proper;
   made = 0;
   told = λ j. (let same : 0 + j ≡ j = omega arith in ap (tells 0) same);
   number = refl;

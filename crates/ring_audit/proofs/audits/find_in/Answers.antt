@@ -129,3 +129,8 @@ returns-then-not-branch-clause-put_slots g c = λ first same. c.in_ok-on.ensures
 
 pub returns-then-not-branch-clause-taken_slots : goal.returns-then-not-branch-clause-taken_slots
 returns-then-not-branch-clause-taken_slots g c = λ first same. c.in_ok-on.ensures.taken_slots first (c.loop-i.invariant.taken_slots first same)
+
+pub returns-clause-within : goal.returns-clause-within
+returns-clause-within g c =
+    let st = c.loop-i.invariant.stands in
+    (omega (arith, st.counted_is, ap length st.put_is, length-append st.items st.stored), omega (arith, ap length c.as_slice.ensures))

@@ -1,4 +1,5 @@
-use Rattle.std.proofs.Common.{List, take, subst, sym, arith}
+use Rattle.std.proofs.Common.{◌≡◌, ◌∙◌, List, length, take, ap, subst, sym, arith}
+use Rattle.std.proofs.Math.Seq.{take-length}
 use Rattle.ring_audit.proofs.Common.{take_more, Event, BothStand}
 use Rattle.ring_audit.proofs.DueLemmas.{stops_here}
 use Rattle.ring_audit.proofs.dues.read_all.Goals as goal
@@ -13,3 +14,10 @@ returns-then-not-read-clause-stands c e =
 
 pub loop-i-preserved : goal.loop-i-preserved
 loop-i-preserved c = grind (arith, take_more, c.loop-i.invariant, c.read.ensures.goes_on, c.if-not-read.false, c.read.ensures.put_shape, c.read.ensures.take_shape)
+
+pub returns-clause-stands : goal.returns-clause-stands
+returns-clause-stands c =
+    let h : List Event = c.args.events.now in
+    let r = c.loop-i.readers in
+    let end : c.loop-i.i ≡ length h = omega arith in
+    subst (BothStand c.args.shape.now r.puts r.takes) (ap (λ k. take k h) end ∙ take-length h) c.loop-i.invariant.stands

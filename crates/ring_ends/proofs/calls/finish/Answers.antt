@@ -19,10 +19,10 @@ pub finish_scan-requires : goal.finish_scan-requires
 finish_scan-requires g c = search (rules, ready_busy, went_busy)
 
 pub finish_word-requires : goal.finish_word-requires
-finish_word-requires g c = search (rules, ready_busy, went_busy, went_then)
+finish_word-requires g c = search (rules, ready_busy, went_busy)
 
 pub write_count-requires : goal.write_count-requires
-write_count-requires g c = search (rules, ready_busy, went_busy, went_then)
+write_count-requires g c = search (rules, ready_busy, went_busy)
 
 pub make-answer-requires-clause-right : goal.make-answer-requires-clause-right
 make-answer-requires-clause-right g c =

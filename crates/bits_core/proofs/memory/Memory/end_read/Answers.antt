@@ -7,7 +7,7 @@ use Rattle.bits_core.specs.Memory.{EndsOverlappedRead, IsRecord, MemoryState, he
 use Rattle.bits_core.specs.Open.{bit_of}
 use Rattle.bits_core.proofs.Flickers.{IsRecord-push, MayFollow-answer, count_below-le}
 use Rattle.bits_core.proofs.FlickerLaws.{ends_overlapped}
-use Rattle.bits_core.proofs.MarkLemmas.{answer-is}
+use Rattle.bits_core.proofs.MarkLemmas.{answer-is, overlapped-is}
 use Rattle.bits_core.proofs.memory.Memory.end_read.Given.{Over}
 use Rattle.bits_core.proofs.memory.Memory.end_read.Goals.{After-read_answer-answer}
 use Rattle.bits_core.proofs.memory.Memory.end_read.Goals as goal
@@ -68,7 +68,7 @@ invariant_of-self-in-Read-1 g c =
     let n : ℕ = c.self.inside.flickers in
     let asked = g.O.Oracle.answers c.args.oracle.now 0 in
     let e : Event = record { side = s; bit = b; act = ReadEnd v } in
-    let overlapped : c.is_none.result ≡ is_overlapped s b h = grind (arith, c.is_none.ensures) in
+    let overlapped : c.is_none.result ≡ is_overlapped s b h = overlapped-is s b h c.settled-settled.result c.is_none.result (due g t) c.is_none.ensures in
     let follows = MayFollow-answer shape h s b asked v c.self.invariant.0.lawful (still g t) (answered g t) in
     let counted : n + (if is_overlapped s b h then 1 else 0) ≡ n + c.from.result = ap (λ (k : ℕ). n + k) (ap (λ (t : Bool). if t then 1 else 0) (sym overlapped) ∙ sym (byte_is c.is_none.result) ∙ sym c.from.ensures) in
     let items : h ++ e ∷ [] ≡ g.S.Store.items c.add.new.self = sym (c.add.ensures.items ∙ ap (λ (t : List Event). t ++ e ∷ []) c.in_ok-reserve-in-Some-Read.ensures.items) in (
@@ -102,7 +102,7 @@ returns-clause-ok g c =
     let its_bit = its_bit g t in
     let v = c.read_answer-answer.result in
     let n : ℕ = c.self.inside.flickers in
-    let overlapped : c.is_none.result ≡ is_overlapped s b h = grind (arith, c.is_none.ensures) in
+    let overlapped : c.is_none.result ≡ is_overlapped s b h = overlapped-is s b h c.settled-settled.result c.is_none.result (due g t) c.is_none.ensures in
     let counted : n + c.from.result ≡ n + (if is_read_overlapped s h then 1 else 0) = ap (λ (k : ℕ). n + k) (c.from.ensures ∙ byte_is c.is_none.result ∙ ap (λ (t : Bool). if t then 1 else 0) overlapped ∙ ap (λ x. if is_overlapped s x h then 1 else 0) (sym its_bit)) in
     let e : Bit → Event = λ x. record { side = s; bit = x; act = ReadEnd v } in
     let items : g.S.Store.items c.add.new.self ≡ h ++ e (open_bit s h) ∷ [] = c.add.ensures.items ∙ ap (λ (t : List Event). t ++ e b ∷ []) c.in_ok-reserve-in-Some-Read.ensures.items ∙ ap (λ x. h ++ e x ∷ []) (sym its_bit) in

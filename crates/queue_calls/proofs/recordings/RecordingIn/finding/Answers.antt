@@ -16,7 +16,12 @@ returns-then-is_empty-clause-found g c bytes has =
 
 pub returns-in-Some-clause-refused : goal.returns-in-Some-clause-refused
 returns-in-Some-clause-refused g c bytes has =
-    grind (arith, cut_refused, else-self-gt0-via-then-self-gt0+else-is_empty, false≢true, eq-eqb, length, else-self-gt0-via-else-self-gt0, nil_from_length)
+    let cut : List ℕ = g.S.Bytes.Store.items c.args.self.now.cut in
+    cut_refused has.ended bytes cut c.in-Some.line has.text has.lines.are has.no_feed (omega (arith, has.lines.count, c.in-Some.ensures.1))
+    (λ none. elim c.else-self-gt0.branch [
+      | else-self-gt0-via-then-self-gt0+else-is_empty w ↦ absurd (false≢true (sym w.if-is_empty.false ∙ w.is_empty.ensures ∙ eq-eqb _ 0 (ap length none)))
+      | else-self-gt0-via-else-self-gt0 w ↦ nil_from_length has.ended (omega (arith, has.lines.count, w.if-self-gt0.false))
+    ])
 
 pub returns-in-None-clause-refused : goal.returns-in-None-clause-refused
 returns-in-None-clause-refused g c bytes has = too_long has.ended bytes (g.S.Bytes.Store.items c.args.self.now.cut) has.text (omega (arith, has.lines.count, c.in-None.ensures))

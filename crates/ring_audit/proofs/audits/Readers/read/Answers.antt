@@ -1,8 +1,8 @@
-use Rattle.std.proofs.Common.{◌≡◌, inr, arith, ap, length, subst}
+use Rattle.std.proofs.Common.{◌≡◌, ◌++◌, ◌∙◌, inr, arith, ap, length, subst}
 use Rattle.ring_audit.specs.declared.takes.TakeStep.TheVariants as takes
 use Rattle.ring_audit.proofs.Common.{Event, Shape, TakeReading, HasReadTake, reading}
 use Rattle.ring_audit.specs.declared.takes.TakeStep.{TakeStep}
-use Rattle.ring_audit.proofs.Readings.{put_stops, put_stores, put_counts, take_stops}
+use Rattle.ring_audit.proofs.Readings.{put_stops, put_goes, put_stores, put_counts, take_stops, take_goes, take_takes}
 use Rattle.ring_audit.proofs.Rooms.{on_err, put_needs, take_needs, take_short}
 use Rattle.ring_audit.proofs.audits.Readers.read.Goals as goal
 
@@ -46,3 +46,19 @@ pub returns-in-Stops-read-clause-stops : goal.returns-in-Stops-read-clause-stops
 returns-in-Stops-read-clause-stops g c f =
     let r = c.args.self.now in
     take_stops r.puts.shape (reading r.puts r.takes r.counted (g.S.Store.items c.args.put.now) (g.S.Store.items c.args.taken.now)) c.read-in-C.new.self c.args.event c.in-C.is (as_puts r.takes.consumer.shape r.puts.shape r.takes c.read-in-C.new.self c.args.event takes.Stops c.requires c.in-Stops-read.ensures.read)
+
+pub returns-in-GoesOn-clause-goes_on : goal.returns-in-GoesOn-clause-goes_on
+returns-in-GoesOn-clause-goes_on g c f =
+    let r = c.args.self.now in
+    put_goes r.puts.shape (reading r.puts r.takes r.counted (g.S.Store.items c.args.put.now) (g.S.Store.items c.args.taken.now)) c.read.new.self c.args.event c.in-P.is c.in-GoesOn.ensures.read
+
+pub returns-in-GoesOn-read-clause-goes_on : goal.returns-in-GoesOn-read-clause-goes_on
+returns-in-GoesOn-read-clause-goes_on g c f =
+    let r = c.args.self.now in
+    take_goes r.puts.shape (reading r.puts r.takes r.counted (g.S.Store.items c.args.put.now) (g.S.Store.items c.args.taken.now)) c.read-in-C.new.self c.args.event c.in-C.is (as_puts r.takes.consumer.shape r.puts.shape r.takes c.read-in-C.new.self c.args.event takes.GoesOn c.requires c.in-GoesOn-read.ensures.read)
+
+pub returns-in_ok-push_all-in-Takes-clause-goes_on : goal.returns-in_ok-push_all-in-Takes-clause-goes_on
+returns-in_ok-push_all-in-Takes-clause-goes_on g c f =
+    let r = c.args.self.now in
+    take_takes r.puts.shape (reading r.puts r.takes r.counted (g.S.Store.items c.args.put.now) (g.S.Store.items c.args.taken.now)) c.read-in-C.new.self c.args.event
+    (g.S.Store.items c.push_all.new.store) c.in-C.is (as_puts r.takes.consumer.shape r.puts.shape r.takes c.read-in-C.new.self c.args.event takes.Takes c.requires c.in-Takes.ensures.read) (c.in_ok-push_all-in-Takes.ensures.pushed ∙ ap (λ l. g.S.Store.items c.args.taken.now ++ l) c.items.ensures)
